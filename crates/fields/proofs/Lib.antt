@@ -1,0 +1,4 @@
+pub mod Cutting
+pub mod Joining
+pub mod Digits
+pub mod Exits

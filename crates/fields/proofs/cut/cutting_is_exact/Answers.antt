@@ -1,0 +1,5 @@
+use Rattle.fields.proofs.Joining.{pieced}
+use Rattle.fields.proofs.cut.cutting_is_exact.Needs as need
+
+pub returns : need.returns
+returns c = pieced (c .args .mark)
