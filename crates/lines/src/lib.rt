@@ -1,0 +1,4 @@
+//! Lines: their kinds, their fields and the numbers in them.
+
+pub mod line;
+pub mod numbers;
