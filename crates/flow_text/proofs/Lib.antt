@@ -1,0 +1,4 @@
+mod Adding
+mod Placing
+mod Putting
+pub mod Walking

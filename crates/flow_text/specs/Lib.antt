@@ -1,0 +1,4 @@
+pub mod Flows
+pub mod Lists
+pub mod Reading
+pub mod Filling

@@ -1,0 +1,6 @@
+//! Flow texts.
+
+pub mod counts;
+pub mod flow;
+mod lists;
+pub mod record;
