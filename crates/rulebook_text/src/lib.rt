@@ -1,0 +1,4 @@
+//! Rulebook texts.
+
+pub mod equation;
+pub mod rulebook;
