@@ -1,0 +1,5 @@
+use Rattle.job.proofs.Splitting.{one-outcome}
+use Rattle.job.proofs.job.job_reading_is_exact.Needs as need
+
+pub returns : need.returns
+returns c = one-outcome
