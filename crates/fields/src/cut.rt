@@ -1,4 +1,5 @@
 ghost use mathlib.Core.Path.{_≡_};
+ghost use mathlib.Core.Bool.{true};
 ghost use mathlib.Core.List.{List, [], _∷_};
 ghost use Prim.Native.Nat.{ℕ, _+_};
 ghost use lib.ListN.{length};
@@ -19,8 +20,9 @@ pub fn cut(bytes: &[u8], mark: u8) -> Option<(&[u8], &[u8])>
 }
 
 /// Cutting at a mark has one result, which joins to the bytes again.
-pub fn cutting_is_exact(mark: u8) -> u8
-    ensures { λ _. ⌜ Pieced mark ⌝ }
+pub fn cutting_is_exact() -> bool
+    ensures answer { λ r. ⌜ r ≡ true ⌝ }
+    ensures law { λ _. ⌜ ((mark : ℕ) → Pieced mark) ⌝ }
 {
-    mark
+    true
 }

@@ -32,7 +32,7 @@ impl<'a> Lines<'a> {
     }
 
     /// How many lines were read.
-    pub fn count(&self) -> usize
+    pub fn done(&self) -> usize
         ensures { λ r. ⌜ r ≡ now (self .entry) .count ⌝ }
     {
         self.count
@@ -50,7 +50,7 @@ impl<'a> Lines<'a> {
         if self.rest.is_empty() {
             return None;
         }
-        let line = self.count + 1;
+        let line = self.done() + 1;
         let Some((front, rest)) = cut(self.rest, b'\n') else {
             return Some(Err(Fault {
                 cause: Cause::Form,
@@ -58,8 +58,7 @@ impl<'a> Lines<'a> {
                 field: 0,
             }));
         };
-        self.rest = rest;
-        self.count = line;
+        *self = Lines { rest, count: line };
         Some(Ok(front))
     }
 }

@@ -106,7 +106,7 @@ impl Lent<'_> {
     {
         let mut lines = lines;
         while let Some(line) = lines.next_line() {
-            let number = lines.count();
+            let number = lines.done();
             let x = read_record(line?, self.flow.counts, number)?;
             self.put(x, number)?;
         }

@@ -1,3 +1,4 @@
+ghost use mathlib.Core.Bool.{true};
 ghost use mathlib.Core.Path.{_≡_};
 ghost use mathlib.Core.List.{List};
 ghost use Prim.Native.Nat.{ℕ, _≤_, _<_};
@@ -115,8 +116,9 @@ pub fn read_job(
 }
 
 /// A job has at most one reading, and at most one fault, and not both.
-pub fn job_reading_is_exact() -> u8
-    ensures { λ _. ⌜ ((most : Room) (room : ℕ) (text : List ℕ) → One-outcome most room text) ⌝ }
+pub fn job_reading_is_exact() -> bool
+    ensures answer { λ r. ⌜ r ≡ true ⌝ }
+    ensures law { λ _. ⌜ ((most : Room) (room : ℕ) (text : List ℕ) → One-outcome most room text) ⌝ }
 {
-    0
+    true
 }

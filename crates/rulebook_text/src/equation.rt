@@ -15,9 +15,12 @@ use lines::numbers::Limits;
 use lines::numbers::within;
 use records::EquationRecord;
 use records::Fixpoint;
+use records::FixpointDebug;
+use records::FixpointEq;
+use records::FixpointPartialEq;
 
 /// What the first line of a rulebook text says.
-#[derive(Clone, Copy)]
+#[derive(Clone, Copy, Debug, PartialEq, Eq)]
 pub struct Rulebook {
     pub side: Fixpoint,
     pub equations: u16,

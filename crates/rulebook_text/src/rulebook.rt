@@ -1,3 +1,4 @@
+ghost use mathlib.Core.Bool.{true};
 ghost use mathlib.Core.Path.{_≡_};
 ghost use Prim.Native.Nat.{ℕ};
 ghost use Rattle.std.specs.Results.{Cases};
@@ -71,7 +72,7 @@ pub fn read_rulebook(text: &[u8], equations: &mut [EquationRecord]) -> Result<Ru
     let book = read_head(first?, 1)?;
     let mut done: usize = 0;
     while let Some(line) = lines.next_line() {
-        let number = lines.count();
+        let number = lines.done();
         let x = read_equation(line?, number)?;
         put(equations, done, book, x, number)?;
         done += 1;
@@ -79,7 +80,7 @@ pub fn read_rulebook(text: &[u8], equations: &mut [EquationRecord]) -> Result<Ru
     if done < book.equations as usize {
         return Err(Fault {
             cause: Cause::Turn,
-            line: lines.count() + 1,
+            line: lines.done() + 1,
             field: 0,
         });
     }
@@ -88,8 +89,44 @@ pub fn read_rulebook(text: &[u8], equations: &mut [EquationRecord]) -> Result<Ru
 
 /// A rulebook text has at most one reading. It is accepted exactly where it has one that the list has places for, and
 /// else refused at its first fault.
-pub fn rulebook_reading_is_exact() -> u8
-    ensures { λ _. ⌜ ((room : ℕ) → Exact (rulebook-grammar room)) ⌝ }
+pub fn rulebook_reading_is_exact() -> bool
+    ensures answer { λ r. ⌜ r ≡ true ⌝ }
+    ensures law { λ _. ⌜ ((room : ℕ) → Exact (rulebook-grammar room)) ⌝ }
 {
-    0
+    true
+}
+
+#[cfg(test)]
+mod tests {
+    use super::*;
+    use crate::equation::RulebookDebug;
+    use crate::equation::RulebookPartialEq;
+    use fields::fault::FaultDebug;
+    use fields::fault::FaultPartialEq;
+    use records::Fixpoint;
+    use std::test::*;
+
+    fn read(text: &[u8]) -> Result<Rulebook, Fault> {
+        let mut equations = [EquationRecord {
+            form: '?',
+            first: 9,
+            second: 9,
+        }; 2];
+        read_rulebook(text, &mut equations)
+    }
+
+    fn refused(line: usize, field: usize) -> Result<Rulebook, Fault> {
+        let cause = Cause::Turn;
+        Err(Fault { cause, line, field })
+    }
+
+    #[test]
+    fn asks_for_equations_in_turn() -> Result<(), Fail> {
+        let side = Fixpoint::Least;
+        let two = Rulebook { side, equations: 2 };
+        check_eq(read(b"R,L,2\nQ,0,t,0,0\nQ,1,<,65535,0\n"), Ok(two))?;
+        check_eq(read(b"R,G,2\nQ,0,f,0,0\n"), refused(3, 0))?;
+        check_eq(read(b"R,G,1\nQ,0,f,0,0\nQ,1,f,0,0\n"), refused(3, 0))?;
+        check_eq(read(b"R,G,2\nQ,1,f,0,0\n"), refused(2, 2))
+    }
 }

@@ -53,7 +53,7 @@ returns-in-Break-x c =
     let e = cases-at-ok _ _ _ (c .in-Continue-line .was tt) (c .in-Some-next-line .ensures tt) in
     let f = c .in-Break-x .ensures tt in
     exit _ _ _ (c .in-Break-x .field-0 .0) (c .from-residual-in-Break-x .ensures .1)
-    (walk.misread _ _ _ _ _ _ _ (c .loop-line .inv .0) _ _ (e .0) _ (f .0) (f .1 ∙ c .count-number .ensures ∙ e .1))
+    (walk.misread _ _ _ _ _ _ _ (c .loop-line .inv .0) _ _ (e .0) _ (f .0) (f .1 ∙ c .done-number .ensures ∙ e .1))
 
 pub returns-in-Break-put : need.returns-in-Break-put
 returns-in-Break-put c =
@@ -61,7 +61,7 @@ returns-in-Break-put c =
     let s = c .loop-line .inv .0 in
     let k = c .in-Break-put .ensures tt .puts _ (s .records) (s .row) in
     exit _ _ _ (c .in-Break-put .field-0 .0) (c .from-residual-in-Break-put .ensures .1)
-    (walk.unplaced _ _ _ _ _ _ _ s _ _ (e .0) _ (c .in-Continue-x .ensures tt) _ _ (k .0) (k .1 ∙ c .count-number .ensures ∙ e .1) (k .2))
+    (walk.unplaced _ _ _ _ _ _ _ s _ _ (e .0) _ (c .in-Continue-x .ensures tt) _ _ (k .0) (k .1 ∙ c .done-number .ensures ∙ e .1) (k .2))
 
 pub loop-line-again : need.loop-line-again
 loop-line-again c =
@@ -73,7 +73,7 @@ loop-line-again c =
 pub returns-then-done-book : need.returns-then-done-book
 returns-then-done-book c =
     let e = c .in-rest-next-line .ensures tt in
-    let at : c .loop-line .lines .count + 1 ≡ c .count .result + 1 = ap (λ n. n + 1) (sym (c .count .ensures ∙ ap (λ l. l .count) (e .1))) in
+    let at : c .loop-line .lines .count + 1 ≡ c .done .result + 1 = ap (λ n. n + 1) (sym (c .done .ensures ∙ ap (λ l. l .count) (e .1))) in
     let P : ℕ → Type 0 = λ n. Refuses (c .args .text .now) (fault Turn n 0) (c .args .equations .now) (c .loop-line .equations) in
     subst P at (walk.missing _ _ _ _ _ _ _ (c .loop-line .inv .0) (e .0) (omega arith))
 

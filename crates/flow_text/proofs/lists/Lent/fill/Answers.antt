@@ -25,7 +25,7 @@ returns-in-Break-x c =
       fills = record {
         fills = λ text before s.
             exit _ _ _ (c .in-Break-x .field-0 .0) (c .from-residual-in-Break-x .ensures .1)
-            (walk.misread text before _ _ _ _ (inv .0 text before s) _ _ (e .0) _ (f .0) (f .1 ∙ c .count-number .ensures ∙ e .1));
+            (walk.misread text before _ _ _ _ (inv .0 text before s) _ _ (e .0) _ (f .0) (f .1 ∙ c .done-number .ensures ∙ e .1));
       };
       names = (inv .1, inv .2, inv .3);
     }
@@ -57,7 +57,7 @@ returns-in-Break-put c =
             let so = inv .0 text before s in
             let k = put .put .puts before (so .records) (so .kept) in
             exit _ _ _ (c .in-Break-put .field-0 .0) (c .from-residual-in-Break-put .ensures .1)
-            (walk.unplaced text before _ _ _ _ so _ _ (e .0) (c .in-Continue-x .x) (c .in-Continue-x .ensures tt) _ _ _ (k .0) (k .1 ∙ c .count-number .ensures ∙ e .1) (k .2));
+            (walk.unplaced text before _ _ _ _ so _ _ (e .0) (c .in-Continue-x .x) (c .in-Continue-x .ensures tt) _ _ _ (k .0) (k .1 ∙ c .done-number .ensures ∙ e .1) (k .2));
       };
       names = (names .0 ∙ inv .1, names .1 ∙ inv .2, names .2 ∙ inv .3);
     }
