@@ -59,24 +59,25 @@ pub fn read_counts(bytes: &[u8], line: usize) -> Result<Counts, Fault>
     })
 }
 
+/// The numbers below a count.
+fn below(count: u16) -> Limits
+    ensures { λ r. ⌜ (r .low ≡ 0) × (r .past ≡ count) ⌝ }
+{
+    Limits {
+        low: 0,
+        past: u32::from(count),
+    }
+}
+
 /// The record that a later line says.
 pub fn read_record(bytes: &[u8], counts: Counts, line: usize) -> Result<Record, Fault>
     ensures { λ r. ⌜ Cases r
         (λ x. says (record-kinds counts) (pieces 44 (now (bytes .entry))) ≡ Ok x)
         (λ f. (says (record-kinds counts) (pieces 44 (now (bytes .entry))) ≡ Err (f .cause, f .field)) × (f .line ≡ line)) ⌝ }
 {
-    let states = Limits {
-        low: 0,
-        past: u32::from(counts.states),
-    };
-    let actions = Limits {
-        low: 0,
-        past: u32::from(counts.actions),
-    };
-    let atoms = Limits {
-        low: 0,
-        past: u32::from(counts.atoms),
-    };
+    let states = below(counts.states);
+    let actions = below(counts.actions);
+    let atoms = below(counts.atoms);
     match read_line(bytes, line)? {
         Line::Transition {
             source,
