@@ -1,0 +1,2 @@
+pub mod Fenced
+pub mod FencedAnswers

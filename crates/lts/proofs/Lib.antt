@@ -1,0 +1,4 @@
+pub mod Bounds
+pub mod Queues
+pub mod Counts
+pub mod Bits

@@ -1,0 +1,5 @@
+pub mod Source
+pub mod Sets
+pub mod Queue
+pub mod QueueAnswers
+pub mod Numbers

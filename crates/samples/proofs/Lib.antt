@@ -1,0 +1,2 @@
+pub mod Computed
+mod Shapes

@@ -1,0 +1,4 @@
+pub mod Sorts
+pub mod Starts
+mod Stamps
+mod Twins

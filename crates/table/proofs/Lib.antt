@@ -1,0 +1,10 @@
+pub mod Listing
+pub mod Noting
+pub mod Pairing
+pub mod Tables
+pub mod Once
+pub mod Builds
+pub mod Means
+pub mod Ranges
+pub mod Verdicts
+pub mod Making
