@@ -13,7 +13,8 @@ use Rattle.semantics.specs.declared.Pair.{Pair}
 use Rattle.semantics.specs.Lts.{Lts}
 use Rattle.semantics.specs.Plain.{pair, among, turned, waits, settled, Takes, Plain, no-book, book, Plain-call, load, pin, run, query, sheet, Allowed}
 use Rattle.semantics.specs.Law.{Each, Once, Goes-on, Progress}
-use Rattle.semantics.proofs.Quantifiers.{every-from, every-not}
+use Rattle.semantics.proofs.Everywhere.{every-from}
+use Rattle.semantics.proofs.Quantifiers.{every-not}
 use Rattle.semantics.proofs.Pairs.{is, is-at, is-self, Inside, among-push, among-append, full}
 
 module _ (F : Lts) (d : Fixpoint) (B : List Equation) (pins : List Pair) where

@@ -68,9 +68,3 @@ some-more n f = rw add-one
 pub some-zero : (f : ℕ → Bool) → some 0 f ≡ false
 unfolding some
 some-zero f = refl
-
--- two tests that pass together are one
-pub same-test : (a b : Bool) → (a ≡ true → b ≡ true) → (b ≡ true → a ≡ true) → a ≡ b
-same-test true b f g = sym (f refl)
-same-test false true f g = g refl
-same-test false false f g = refl

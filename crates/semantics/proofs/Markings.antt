@@ -32,11 +32,6 @@ unfolding every
 every-mono zero f g h e = e
 every-mono (suc n) f g h e = and-mono (every n f) (f n) (every n g) (g n) (every-mono n f g (λ k l. h k (omega arith))) (h n (omega arith)) e
 
-pub every-at : (n : ℕ) (f : ℕ → Bool) → every n f ≡ true → (k : ℕ) → k < n → f k ≡ true
-unfolding every
-every-at zero f e = λ k l. absurd (omega arith)
-every-at (suc n) f e = let p = and-parts (every n f) (f n) e in below-suc n (λ k. f k ≡ true) (every-at n f p.0) p.1
-
 -- the variables that an equation names lie below n
 abbrev pub Names : ℕ → Form → ℕ → ℕ → Type 0
 Names n True x y = Unit {0}

@@ -7,7 +7,7 @@ use lib.Dec.{eqb}
 use Rattle.std.proofs.shelf.Tests.{eqb-true, eq-eqb, and-parts, and-from}
 use Rattle.semantics.specs.Lts.{Lts, some}
 use Rattle.semantics.specs.Preorder.{Relation, Matches, Prebisimulation, Is-preorder}
-use Rattle.semantics.proofs.Quantifiers.{some-at, some-from}
+use Rattle.semantics.proofs.Everywhere.{some-at, some-from}
 
 same-matches : (M : Lts) (s : ℕ) → Matches M M eqb s s
 same-matches M s = record {
@@ -25,7 +25,7 @@ through C R Q s s″ = some (C .states) (λ s′. R s s′ && Q s′ s″)
 
 through-from : (C : Lts) (R Q : Relation) (s s′ s″ : ℕ) → s′ < C .states → R s s′ ≡ true → Q s′ s″ ≡ true → through C R Q s s″ ≡ true
 unfolding through
-through-from C R Q s s′ s″ l r q = some-from (C .states) (λ s′. R s s′ && Q s′ s″) s′ l (and-from (R s s′) (Q s′ s″) r q)
+through-from C R Q s s′ s″ l r q = some-from (C .states) s′ (λ s′. R s s′ && Q s′ s″) l (and-from (R s s′) (Q s′ s″) r q)
 
 compose-at : (M C D : Lts) (R Q : Relation) → C .actions ≡ M .actions → Prebisimulation M C R → Prebisimulation C D Q →
     (s s″ : ℕ) → s < M .states → s″ < D .states → through C R Q s s″ ≡ true → Matches M D (through C R Q) s s″

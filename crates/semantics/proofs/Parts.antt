@@ -9,9 +9,8 @@ use lib.Dec.{ltb}
 use Rattle.std.proofs.shelf.Tests.{both-ways, or-cases, or-left, or-right, lt-ltb, ltb-true, cases-bool}
 use Rattle.semantics.specs.Lts.{Lts, some, active}
 use Rattle.semantics.specs.Preorder.{Relation, Matches, fenced-by}
+use Rattle.semantics.proofs.Everywhere.{every-at, every-from, some-at, some-from}
 use Rattle.semantics.proofs.Bools.{false-by, unless, unless-at}
-use Rattle.semantics.proofs.Markings.{every-at}
-use Rattle.semantics.proofs.Quantifiers.{every-from, some-at, some-from}
 use Rattle.semantics.proofs.Members.{In}
 use Rattle.semantics.proofs.Describes.{Part, fence, may, must, Right, Parts, Meets}
 
@@ -23,7 +22,7 @@ active-divergent F s a e = or-left (F .divergent s a) _ e
 
 pub active-step : (F : Lts) (s a t : ℕ) → t < F .states → 0 < F .transitions s a t → active F s a ≡ true
 unfolding active
-active-step F s a t l h = or-right (F .divergent s a) _ (some-from (F .states) (λ t. ltb 0 (F .transitions s a t)) t l (lt-ltb 0 (F .transitions s a t) h))
+active-step F s a t l h = or-right (F .divergent s a) _ (some-from (F .states) t (λ t. ltb 0 (F .transitions s a t)) l (lt-ltb 0 (F .transitions s a t) h))
 
 pub active-cases : (F : Lts) (s a : ℕ) → active F s a ≡ true → (F .divergent s a ≡ true) ⊎ ((t : ℕ) × (t < F .states) × (0 < F .transitions s a t))
 unfolding active

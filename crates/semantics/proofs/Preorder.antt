@@ -5,8 +5,9 @@ use mathlib.Core.Path.{_≡_, refl, sym, ap, fun-ext, _∙_}
 use Rattle.std.proofs.shelf.Tests.{both-ways, not-true, not-from-false, and-parts, and-from}
 use Rattle.semantics.specs.Lts.{Lts}
 use Rattle.semantics.specs.Preorder.{Relation, Follows, Matches, Prebisimulation, follows, matches, matched, related, Related-by-rounds}
-use Rattle.semantics.proofs.Markings.{every-at, Le}
-use Rattle.semantics.proofs.Quantifiers.{every-from, some-step, step-some, every-step, step-every}
+use Rattle.semantics.proofs.Everywhere.{every-at, every-from}
+use Rattle.semantics.proofs.Markings.{Le}
+use Rattle.semantics.proofs.Quantifiers.{some-step, step-some, every-step, step-every}
 use Rattle.semantics.proofs.Bools.{true-by, not-by, not-not, or-second}
 use Rattle.semantics.proofs.Fix.{iter, iter-closed}
 

@@ -8,12 +8,7 @@ use lib.Dec.{eqb, ltb}
 use Rattle.std.proofs.shelf.Tests.{both-ways, and-parts, and-from, and-cases, or-cases, or-left, or-right, ltb-true, lt-ltb, eqb-true, eq-eqb, cases-lt}
 use Rattle.semantics.specs.Lts.{some, every}
 use Rattle.semantics.proofs.Sums.{below-suc}
-use Rattle.semantics.proofs.Markings.{every-at}
-
-pub every-from : (n : ℕ) (f : ℕ → Bool) → ((k : ℕ) → k < n → f k ≡ true) → every n f ≡ true
-unfolding every
-every-from zero f h = refl
-every-from (suc n) f h = and-from (every n f) (f n) (every-from n f (λ k l. h k (omega arith))) (h n (omega arith))
+use Rattle.semantics.proofs.Everywhere.{every-at, every-from, some-at, some-from}
 
 pub every-not : (n : ℕ) (f : ℕ → Bool) → every n f ≡ false → (k : ℕ) × (k < n) × (f k ≡ false)
 unfolding every
@@ -24,24 +19,6 @@ every-not (suc n) f e = go (every-not n f) (and-cases (every n f) (f n) e)
     go before (inl q) = let b = before q in (b .0, omega arith, b .2)
     go before (inr q) = (n, omega arith, q)
 
-pub some-at : (n : ℕ) (f : ℕ → Bool) → some n f ≡ true → (k : ℕ) × (k < n) × (f k ≡ true)
-unfolding some
-some-at zero f e = absurd (both-ways false refl e)
-some-at (suc n) f e = go (some-at n f) (or-cases (some n f) (f n) e)
-  where
-    go : (some n f ≡ true → (k : ℕ) × (k < n) × (f k ≡ true)) → (some n f ≡ true) ⊎ (f n ≡ true) → (k : ℕ) × (k < suc n) × (f k ≡ true)
-    go before (inl q) = let b = before q in (b .0, omega arith, b .2)
-    go before (inr q) = (n, omega arith, q)
-
-pub some-from : (n : ℕ) (f : ℕ → Bool) (k : ℕ) → k < n → f k ≡ true → some n f ≡ true
-unfolding some
-some-from zero f k l = absurd (omega arith)
-some-from (suc n) f k l =
-    below-suc n (λ k. f k ≡ true → or n ≡ true) (λ k m e. or-left (some n f) (f n) (some-from n f k m e)) (λ e. or-right (some n f) (f n) e) k l
-  where
-    or : ℕ → Bool
-    or n = some n f || f n
-
 -- with f t transitions to t
 
 pub some-step : (n : ℕ) (f : ℕ → ℕ) (g : ℕ → Bool) → some n (λ t. ltb 0 (f t) && g t) ≡ true → (t : ℕ) × (t < n) × (0 < f t) × (g t ≡ true)
@@ -51,7 +28,7 @@ some-step n f g e =
     (a .0, a .1, ltb-true 0 (f (a .0)) (b .0), b .1)
 
 pub step-some : (n : ℕ) (f : ℕ → ℕ) (g : ℕ → Bool) (t : ℕ) → t < n → 0 < f t → g t ≡ true → some n (λ t. ltb 0 (f t) && g t) ≡ true
-step-some n f g t l h e = some-from n (λ t. ltb 0 (f t) && g t) t l (and-from (ltb 0 (f t)) (g t) (lt-ltb 0 (f t) h) e)
+step-some n f g t l h e = some-from n t (λ t. ltb 0 (f t) && g t) l (and-from (ltb 0 (f t)) (g t) (lt-ltb 0 (f t) h) e)
 
 pub every-step : (n : ℕ) (f : ℕ → ℕ) (g : ℕ → Bool) → every n (λ t. eqb 0 (f t) || g t) ≡ true → (t : ℕ) → t < n → 0 < f t → g t ≡ true
 every-step n f g e t l h = go (or-cases (eqb 0 (f t)) (g t) (every-at n (λ t. eqb 0 (f t) || g t) e t l))

@@ -14,7 +14,7 @@ use Rattle.semantics.specs.Lts.{Lts}
 use Rattle.semantics.specs.Equations.{Marking, solution, start}
 use Rattle.semantics.specs.Plain.{among, decided, turned, waits, settled, standing, no-book, book}
 use Rattle.semantics.specs.Law.{Each, Within, most-looks, Stands, Always-stands}
-use Rattle.semantics.proofs.Markings.{every-at}
+use Rattle.semantics.proofs.Everywhere.{every-at}
 use Rattle.semantics.proofs.Fix.{iter, iter-below, iter-closed}
 use Rattle.semantics.proofs.Bools.{same-bool}
 use Rattle.semantics.proofs.Sides.{step, step-mono, not-turned, unmark-least, greatest-least, least-greatest, Prefixed, sound-prefixed, prefixed-sound, closed-prefixed, prefixed-closed, solution-mark}

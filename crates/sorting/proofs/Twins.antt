@@ -11,7 +11,8 @@ use lib.ListN.{length, getD}
 use Rattle.std.proofs.shelf.Tests.{cases-eq, and-parts, and-from, eq-eqb, eqb-true, ltb-true, leb-true}
 use Rattle.semantics.specs.Lts.{sum, some, one}
 use Rattle.semantics.proofs.Counting.{one-is, one-not, one-few, one-same, two-in, two-of}
-use Rattle.semantics.proofs.Everywhere.{some-at, some-from, every-at, same-test}
+use Rattle.semantics.proofs.Everywhere.{some-at, some-from, every-at}
+use Rattle.semantics.proofs.Bools.{same-bool}
 use Rattle.sorting.specs.Sorting.{key-of, value-of, hits, before, pairs, found, start, row}
 use Rattle.sorting.specs.Repetition.{repeats, small, twice, some-twice}
 
@@ -91,7 +92,7 @@ module _ (ps : List (ℕ × ℕ)) (ends items : List ℕ)
       (eq-eqb (key-of ps k) (key-of ps j) (p .0 ∙ sym (q .0))) (eq-eqb (value-of ps k) (value-of ps j) (p .1 ∙ sym (q .1)))))
 
   pub rows-tell : some-twice ends items ≡ repeats ps
-  rows-tell = same-test (some-twice ends items) (repeats ps) up down
+  rows-tell = same-bool (some-twice ends items) (repeats ps) up down
 
 -- what a test of size says
 pub small-parts : (ps : List (ℕ × ℕ)) → small ps ≡ true → (length ps ≤ 2048) × ((k : ℕ) → k < length ps → (key-of ps k < 1024) × (value-of ps k < 65536))

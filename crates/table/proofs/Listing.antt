@@ -10,7 +10,7 @@ use native.Mathlib.Nat.{not-suc-le-zero, le-of-suc-le-suc}
 use lib.ListN.{length, getD, take}
 use lib.Seq.{take-append-le, take-all}
 use Rattle.std.proofs.shelf.Tests.{and-parts, and-from, or-cases, or-left, or-right, both-ways, cases-bool, cases-lt}
-use Rattle.semantics.proofs.Everywhere.{same-test}
+use Rattle.semantics.proofs.Bools.{same-bool}
 use Rattle.table.specs.Records.{has, each, repeated}
 
 -- what stands in a list, whatever is taken for its end
@@ -109,7 +109,7 @@ pub repeated-eq : {X : Type 0} (f g : X → X → Bool) (xs : List X) →
     ((k j : ℕ) (d : X) → k < length xs → j < length xs → f (getD xs k d) (getD xs j d) ≡ g (getD xs k d) (getD xs j d)) → repeated f xs ≡ repeated g xs
 unfolding repeated
 repeated-eq {X = X} f g [] e = refl
-repeated-eq {X = X} f g (x ∷ xs) e = same-test (repeated f (x ∷ xs)) (repeated g (x ∷ xs)) (over f g e) (over g f (λ k j d h l. sym (e k j d h l)))
+repeated-eq {X = X} f g (x ∷ xs) e = same-bool (repeated f (x ∷ xs)) (repeated g (x ∷ xs)) (over f g e) (over g f (λ k j d h l. sym (e k j d h l)))
   where
     over : (f g : X → X → Bool) → ((k j : ℕ) (d : X) → k < suc (length xs) → j < suc (length xs) → f (getD (x ∷ xs) k d) (getD (x ∷ xs) j d) ≡ g (getD (x ∷ xs) k d) (getD (x ∷ xs) j d)) →
         repeated f (x ∷ xs) ≡ true → repeated g (x ∷ xs) ≡ true

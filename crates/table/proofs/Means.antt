@@ -17,7 +17,7 @@ use Rattle.records.specs.declared.Divergence.{Divergence}
 use Rattle.records.specs.declared.Label.{Label}
 use Rattle.semantics.specs.Lts.{Lts, sum, one}
 use Rattle.sorting.specs.Sorting.{start, row}
-use Rattle.semantics.proofs.Everywhere.{same-test}
+use Rattle.semantics.proofs.Bools.{same-bool}
 use Rattle.lts.specs.declared.sets.SmallSet.{SmallSet}
 use Rattle.lts.specs.Sets.{member}
 use Rattle.table.specs.declared.TableRefusal.{TableRefusal}
@@ -70,7 +70,7 @@ outside b P f never = ⊎-elim (λ (e : b ≡ true). absurd (never (f e))) (λ (
 -- sets that were noted
 sets-are : (n most : ℕ) (sets : List SmallSet) (test : ℕ → ℕ → Bool) → most ≤ 64 → ((s i : ℕ) → s < n → member (getD sets s empty-set) i ≡ (ltb i 64 && test s i)) →
     ((s i : ℕ) → test s i ≡ true → (s < n) × (i < most)) → (s i : ℕ) → in-set n most sets s i ≡ test s i
-sets-are n most sets test few noted within s i = same-test (in-set n most sets s i) (test s i) up down
+sets-are n most sets test few noted within s i = same-bool (in-set n most sets s i) (test s i) up down
   where
     up : in-set n most sets s i ≡ true → test s i ≡ true
     up e =

@@ -10,7 +10,8 @@ use lib.ListN.{length, getD, set, take}
 use Rattle.std.specs.declared.option.Option.the-variants.{Some, None}
 use Rattle.std.proofs.shelf.Lists.{getD-set-same, getD-set-other, getD-take, length-take-le}
 use Rattle.std.proofs.shelf.Tests.{and-from, le-leb, lt-ltb}
-use Rattle.semantics.proofs.Everywhere.{some-at, some-from, every-from, same-test}
+use Rattle.semantics.proofs.Everywhere.{some-at, some-from, every-from}
+use Rattle.semantics.proofs.Bools.{same-bool}
 use Rattle.sorting.specs.Sorting.{key-of, value-of}
 use Rattle.sorting.specs.Repetition.{repeats, small, repeated-answer}
 use Rattle.table.specs.Records.{repeated}
@@ -52,7 +53,7 @@ module _ {X : Type 0} (key value : X → ℕ) (xs : List X) (ps : List (ℕ × �
       some-from (length ps) j _ (omega (arith, w .3)) (some-from j k _ (w .2) (pairs-same k j d (omega (arith, w .2, w .3)) (w .3) ∙ w .4 d))
 
   pub repeats-same : repeats ps ≡ repeated same xs
-  repeats-same = same-test (repeats ps) (repeated same xs) up down
+  repeats-same = same-bool (repeats ps) (repeated same xs) up down
 
   pub pairs-small : length xs ≤ 2048 → ((k : ℕ) (d : X) → k < length xs → (key (getD xs k d) < 1024) × (value (getD xs k d) < 65536)) → small ps ≡ true
   unfolding small

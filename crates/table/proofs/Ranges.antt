@@ -12,7 +12,7 @@ use Rattle.records.specs.declared.Counts.{Counts}
 use Rattle.records.specs.declared.Transition.{Transition}
 use Rattle.records.specs.declared.Divergence.{Divergence}
 use Rattle.records.specs.declared.Label.{Label}
-use Rattle.semantics.proofs.Everywhere.{same-test}
+use Rattle.semantics.proofs.Bools.{same-bool}
 use Rattle.table.specs.Records.{each, repeated, same-transition, counts-inside, transition-inside, divergence-inside, label-inside}
 use Rattle.table.proofs.Listing.{each-at, repeated-eq}
 
@@ -72,7 +72,7 @@ module _ (c : Counts) (few : counts-inside c ≡ true) where
     where
       one-code : (x y : Transition) → x .target < 1024 → y .target < 1024 →
           (eqb (x .source) (y .source) && eqb (x .action * 1024 + x .target) (y .action * 1024 + y .target)) ≡ same-transition x y
-      one-code x y hx hy = same-test _ (same-transition x y)
+      one-code x y hx hy = same-bool _ (same-transition x y)
           (λ e.
           let p = and-parts (eqb (x .source) (y .source)) (eqb (x .action * 1024 + x .target) (y .action * 1024 + y .target)) e in
           let q = eqb-true (x .action * 1024 + x .target) (y .action * 1024 + y .target) (p .1) in
