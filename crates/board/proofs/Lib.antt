@@ -1,0 +1,5 @@
+pub mod Folds
+pub mod Rooms
+pub mod Books
+pub mod Coming
+pub mod Relinking

@@ -1,0 +1,15 @@
+pub mod Tables
+pub mod Listing
+pub mod Deciding
+pub mod Hitting
+pub mod Linking
+pub mod Visiting
+pub mod Totals
+pub mod Bounding
+pub mod Taking
+pub mod Running
+pub mod Pinning
+pub mod Loading
+pub mod Accepting
+pub mod Sheets
+pub mod Refining
