@@ -1,6 +1,6 @@
 -- The same system under other atoms: atom i holds at a state when every action on which the state has a transition or
 -- is divergent lies in set i.
-use Rattle.std.specs.Prelude.{ℕ, Bool, cond, not, ◌&&◌, ◌||◌, List, length, Some, None, Option, nat_le, nat_lt, slice_index_or}
+use Rattle.std.specs.Prelude.{ℕ, Bool, cond, not, ◌&&◌, ◌||◌, List, Some, None, Option, nat_le, nat_lt, slice_index_or}
 use Rattle.semantics.specs.Lts.{Lts, every, active}
 use Rattle.lts.specs.declared.sets.SmallSet.{SmallSet}
 use Rattle.lts.specs.Sets.{member}

@@ -4,7 +4,6 @@ use native.Mathlib.Nat.{div-eq_of_lt, zero-div}
 use lib.Bits.{bit_or}
 use Rattle.std.proofs.lemmas.Nat.{or_mod, or_shr, mod_below, pow_below, pow-add, shl-shr, one_shl, div-add-mod'}
 use Rattle.std.proofs.lemmas.Bool.{le-ltb, lt-ltb, eq-eqb, ne_eqb, cases_lt}
-use Rattle.std.proofs.lemmas.Bool.Decides.{nat_tests}
 use Rattle.lts.specs.Sets.{bit}
 
 pub zero_bit : (i : ℕ) → bit 0 i ≡ false

@@ -1,4 +1,5 @@
 //! The records that texts spell, and that sources and sessions are made from.
+#![tactic(auto)]
 
 /// How many states, actions and atoms a flow has. Each is numbered from 0.
 #[derive(Clone, Copy, Debug, PartialEq, Eq)]

@@ -7,7 +7,6 @@ use Rattle.semantics.specs.declared.Equation.{Equation}
 use Rattle.semantics.specs.Lts.{Lts, some, every}
 use Rattle.semantics.specs.Equations.{nth, Marking, truth, true_at}
 use Rattle.semantics.specs.Law.{Within}
-use Rattle.semantics.proofs.Sums.{below_suc}
 
 pub or_mono : (a b c e : Bool) → (a ≡ true → c ≡ true) → (b ≡ true → e ≡ true) → (a || b) ≡ true → (c || e) ≡ true
 or_mono true b c e f g h = or_left c e (f refl)

@@ -1,6 +1,7 @@
 //! The definitions that the flow checker is held to, and the laws that follow from them.
 //! This crate has the types that engines share, and a public function for each law; the
 //! definitions stand in specs/, and docs/SEMANTICS.md says each in words.
+#![tactic(auto)]
 
 pub mod laws;
 

@@ -1,11 +1,11 @@
 -- A pair stands twice where its row has its value twice.
-use Rattle.std.proofs.Common.{◌≡◌, ℕ, ◌+◌, ◌-◌, ◌*◌, ◌<◌, ◌≤◌, Bool, true, false, cond, ◌&&◌, eqb, ltb, leb, ◌⊎◌, List, length, get_or, sym, refl, ap, ◌∙◌, ap₂, ⊎_elim, one-mul, mul-zero, zero-mul, arith}
+use Rattle.std.proofs.Common.{◌≡◌, ℕ, ◌+◌, ◌*◌, ◌<◌, ◌≤◌, true, eqb, ltb, leb, List, length, get_or, sym, refl, ap, ◌∙◌, ap₂, ⊎_elim, one-mul, zero-mul, arith}
 use Rattle.std.proofs.lemmas.Bool.{cases_eq, and_parts, and_from, eq-eqb, eqb-true, ltb-true, leb-true}
-use Rattle.semantics.specs.Lts.{sum, some, one}
+use Rattle.semantics.specs.Lts.{one}
 use Rattle.semantics.proofs.Counting.{one_is, one_not, one_few, one_same, two_in, two_of}
 use Rattle.semantics.proofs.Everywhere.{some_at, some_from, every_at}
 use Rattle.semantics.proofs.Bools.{same_bool}
-use Rattle.sorting.specs.Sorting.{key_of, value_of, hits, before, pairs, found, start, row}
+use Rattle.sorting.specs.Sorting.{key_of, value_of, pairs, found, start, row}
 use Rattle.sorting.specs.Repetition.{repeats, small, twice, some_twice}
 
 -- the product of two counts, of which each is at most one

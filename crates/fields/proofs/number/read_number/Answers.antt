@@ -1,4 +1,4 @@
-use Rattle.std.proofs.Common.{◌≡◌, ℕ, ◌+◌, ◌*◌, sym, refl, subst, pow-suc, add-one, arith}
+use Rattle.std.proofs.Common.{ℕ, ◌+◌, ◌*◌, sym, refl, subst, pow-suc, add-one, arith}
 use Rattle.fields.proofs.Digits.{Sofar, none_read, one_more, all_read, no_number, wrong_length, few_digits}
 use Rattle.fields.proofs.number.read_number.Goals as goal
 
@@ -8,14 +8,14 @@ returns-then-field-eq0 c = (wrong_length _ (λ some few. omega arith), refl)
 pub loop-b-init : goal.loop-b-init
 loop-b-init c = (none_read _, omega arith)
 
-pub overflow-mul-n : goal.overflow-mul-n
-overflow-mul-n c = omega (arith, few_digits c.loop-b.b-index (omega arith))
+pub overflow_mul-n : goal.overflow_mul-n
+overflow_mul-n c = omega (arith, few_digits c.loop-b.b-index (omega arith))
 
-pub overflow-add-n : goal.overflow-add-n
-overflow-add-n c = omega (arith, few_digits c.loop-b.b-index (omega arith), c.in-Some.ensures)
+pub overflow_add-n : goal.overflow_add-n
+overflow_add-n c = omega (arith, few_digits c.loop-b.b-index (omega arith), c.in-Some.ensures)
 
-pub returns-in-default : goal.returns-in-default
-returns-in-default c = (no_number _ c.loop-b.b-index (omega arith) c.in-default.ensures, refl)
+pub returns-in_default : goal.returns-in_default
+returns-in_default c = (no_number _ c.loop-b.b-index (omega arith) c.in_default.ensures, refl)
 
 pub loop-b-preserved : goal.loop-b-preserved
 loop-b-preserved c =

@@ -1,7 +1,6 @@
-use Rattle.std.proofs.Common.{◌&&◌, ltb, leb, length, sym, ◌∙◌, arith, below_more}
+use Rattle.std.proofs.Common.{leb, length, sym, arith, below_more}
 use Rattle.std.proofs.lemmas.Bool.{and_from, and_left, and_right, le-leb, lt-leb}
 use Rattle.semantics.proofs.Everywhere.{every_from, every_fails}
-use Rattle.sorting.specs.Sorting.{key_of, value_of}
 use Rattle.sorting.specs.Repetition.{small}
 use Rattle.sorting.proofs.repeats.all_small.Goals as goal
 

@@ -6,17 +6,17 @@ use Rattle.sorting.proofs.Starts.{start_before, row_hits}
 use Rattle.sorting.proofs.Twins.{rows_tell, small_parts}
 use Rattle.sorting.proofs.repeats.repeated.Goals as goal
 
-pub sort-into-requires : goal.sort-into-requires
-sort-into-requires c = record { clear = λ i h. zeros 1024 i; room = (small_parts c.args.pairs.now (sym c.if-not-all-small.ensures)).0 }
+pub sort_into-requires : goal.sort_into-requires
+sort_into-requires c = record { clear = λ i h. zeros 1024 i; room = (small_parts c.args.pairs.now (sym c.if-not-all_small.ensures)).0 }
 
-pub some-row-repeats-requires : goal.some-row-repeats-requires
-some-row-repeats-requires c =
+pub some_row_repeats-requires : goal.some_row_repeats-requires
+some_row_repeats-requires c =
     let ps = c.args.pairs.now in
-    let fine = small_parts ps (sym c.if-not-all-small.ensures) in
+    let fine = small_parts ps (sym c.if-not-all_small.ensures) in
     record {
-      few = omega (arith, c.sort-into.auto.ends);
-      inside = λ i h. omega (arith, c.sort-into.ensures.ends i h, before_few (key_of ps) (length ps) (i + 1), fine.0, c.sort-into.auto.items);
-      under = c.sort-into.ensures.under 65536 (λ k h. omega (arith, zeros 2048 k)) (λ k h. (fine.1 k h).1);
+      few = omega (arith, c.sort_into.auto.ends);
+      inside = λ i h. omega (arith, c.sort_into.ensures.ends i h, before_few (key_of ps) (length ps) (i + 1), fine.0, c.sort_into.auto.items);
+      under = c.sort_into.ensures.under 65536 (λ k h. omega (arith, zeros 2048 k)) (λ k h. (fine.1 k h).1);
     }
 
 pub returns : goal.returns
@@ -24,12 +24,12 @@ returns c =
     let ps = c.args.pairs.now in
     let key = key_of ps in
     let m = length ps in
-    let ends = c.sort-into.new.ends in
-    let items = c.sort-into.new.items in
+    let ends = c.sort_into.new.ends in
+    let items = c.sort_into.new.items in
     let n = length ends in
-    let at = c.sort-into.ensures.ends in
-    let fine = small_parts ps (sym c.if-not-all-small.ensures) in
-    let tell = rows_tell ps ends items (λ k h. omega (arith, (fine.1 k h).0, c.sort-into.auto.ends))
+    let at = c.sort_into.ensures.ends in
+    let fine = small_parts ps (sym c.if-not-all_small.ensures) in
+    let tell = rows_tell ps ends items (λ k h. omega (arith, (fine.1 k h).0, c.sort_into.auto.ends))
     (λ i s h. ap (λ b. found items b (row ends i) s) (start_before key m ends n at i (omega arith)) ∙
-    ap (λ r. found items (before key m i) r s) (row_hits key m ends n at i h) ∙ c.sort-into.ensures.rows i s h) in
-    ap (λ b. Some b) (c.some-row-repeats.ensures ∙ tell) ∙ ap (λ b. cond b (Some (repeats ps)) None) c.if-not-all-small.ensures
+    ap (λ r. found items (before key m i) r s) (row_hits key m ends n at i h) ∙ c.sort_into.ensures.rows i s h) in
+    ap (λ b. Some b) (c.some_row_repeats.ensures ∙ tell) ∙ ap (λ b. cond b (Some (repeats ps)) None) c.if-not-all_small.ensures

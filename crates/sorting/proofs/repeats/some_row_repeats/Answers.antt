@@ -10,19 +10,19 @@ pub loop-i-init : goal.loop-i-init
 loop-i-init c =
     (refl, start_first c.args.ends.now 0 refl, length-replicate {A = ℕ} 65536 0, (λ v h. omega (arith, zeros 65536 v)), (λ i h. absurd (omega arith)))
 
-pub returns-then-row-repeats : goal.returns-then-row-repeats
+pub returns-then-row_repeats : goal.returns-then-row_repeats
 unfolding some_twice
-returns-then-row-repeats c =
+returns-then-row_repeats c =
     sym (some_from (length c.args.ends.now) c.loop-i.i _ c.loop-i-test.true
-    (row_gone c.args.ends.now c.args.items.now c.loop-i.i c.loop-i.from _ c.loop-i.invariant.1 c.if-row-repeats.ensures.exact))
+    (row_gone c.args.ends.now c.args.items.now c.loop-i.i c.loop-i.from _ c.loop-i.invariant.1 c.if-row_repeats.ensures.exact))
 
 pub loop-i-preserved : goal.loop-i-preserved
 loop-i-preserved c =
-    let again = row_gone c.args.ends.now c.args.items.now c.loop-i.i c.loop-i.from _ c.loop-i.invariant.1 c.if-row-repeats.ensures.exact in (
+    let again = row_gone c.args.ends.now c.args.items.now c.loop-i.i c.loop-i.from _ c.loop-i.invariant.1 c.if-row_repeats.ensures.exact in (
       omega (arith, c.loop-i.invariant.0),
       sym (start_next c.args.ends.now c.loop-i.i),
-      omega (arith, c.row-repeats.auto.stamps, c.loop-i.invariant.2),
-      c.row-repeats.ensures.stamped c.if-row-repeats.false,
+      omega (arith, c.row_repeats.auto.stamps, c.loop-i.invariant.2),
+      c.row_repeats.ensures.stamped c.if-row_repeats.false,
       below_more _ _ c.loop-i.invariant.4 again,
     )
 

@@ -1,7 +1,7 @@
 use Rattle.std.proofs.Common.{not, ◌||◌, ltb, sym, ap, ◌∙◌, arith}
 use Rattle.std.proofs.lemmas.Bool.{le-ltb}
 use Rattle.semantics.proofs.Everywhere.{every_from, every_fails}
-use Rattle.lts.specs.Sets.{all_below, member}
+use Rattle.lts.specs.Sets.{all_below}
 use Rattle.lts.proofs.sets.SmallSet.all_below.Goals as goal
 
 pub returns-then-i-n : goal.returns-then-i-n
