@@ -1,11 +1,11 @@
 -- The lists of a table are made from its records.
-use Rattle.std.proofs.Common.{◌≡◌, ℕ, zero, suc, ◌+◌, ◌-◌, ◌*◌, ◌/◌, ◌%◌, ◌<◌, ◌≤◌, Bool, true, false, cond, ◌&&◌, eqb, ltb, ◌⊎◌, List, length, get_or, sym, refl, ap, ◌∙◌, ap₂, ⊎_elim, mul-zero, zero-mul, mul-one, arith}
+use Rattle.std.proofs.Common.{◌≡◌, ℕ, ◌+◌, ◌*◌, ◌/◌, ◌%◌, ◌<◌, ◌≤◌, Bool, true, false, cond, ◌&&◌, eqb, ltb, List, length, get_or, sym, refl, ap, ◌∙◌, ap₂, mul-zero, zero-mul, mul-one, arith}
 use Rattle.std.proofs.lemmas.Nat.{div-mul-add, mod-mul-add, div-add-mod'}
 use Rattle.std.proofs.lemmas.Bool.{and_parts, and_from, lt-ltb, ltb-true, eqb-true, eq-eqb, both_ways}
 use Rattle.records.specs.declared.Counts.{Counts}
 use Rattle.records.specs.declared.Transition.{Transition}
 use Rattle.semantics.specs.Lts.{sum, one}
-use Rattle.semantics.proofs.Sums.{sum_eq, sum_swap, sum_single, sum_zero}
+use Rattle.semantics.proofs.Sums.{sum_eq, sum_swap, sum_single}
 use Rattle.semantics.proofs.Counting.{one_is, one_not}
 use Rattle.semantics.proofs.Places.{one_place, place_below, row_below, column_below}
 use Rattle.lts.specs.declared.sets.SmallSet.{SmallSet}

@@ -1,8 +1,7 @@
 -- What a table holds is what its records describe.
-use Rattle.std.proofs.Common.{◌≡◌, ℕ, ◌+◌, ◌*◌, ◌<◌, ◌≤◌, Bool, true, false, cond, ◌&&◌, ◌||◌, eqb, ltb, leb, ◌⊎◌, List, length, get_or, Some, None, Option, sym, refl, ap, ◌∙◌, ⊎_elim, arith}
+use Rattle.std.proofs.Common.{◌≡◌, ℕ, ◌+◌, ◌*◌, ◌<◌, ◌≤◌, Bool, true, false, cond, ◌&&◌, eqb, ltb, List, get_or, sym, ap, ◌∙◌, ⊎_elim, arith}
 use mathlib.Core.Path.{fun_ext}
-use Rattle.std.proofs.lemmas.Bool.{cases_lt, cases_Bool, and_parts, and_from, and_left, and_right, lt-ltb, le-ltb, ltb-true, eqb-true, leb-true}
-use Rattle.std.proofs.lemmas.Bool.Decides.{nat_tests}
+use Rattle.std.proofs.lemmas.Bool.{cases_lt, cases_Bool, and_parts, and_from, and_left, and_right, lt-ltb, le-ltb, ltb-true, eqb-true}
 use Rattle.records.specs.declared.Counts.{Counts}
 use Rattle.records.specs.declared.Transition.{Transition}
 use Rattle.records.specs.declared.Divergence.{Divergence}
@@ -12,10 +11,8 @@ use Rattle.sorting.specs.Sorting.{start, row}
 use Rattle.semantics.proofs.Bools.{same_bool}
 use Rattle.lts.specs.declared.sets.SmallSet.{SmallSet}
 use Rattle.lts.specs.Sets.{member}
-use Rattle.table.specs.declared.TableRefusal.{TableRefusal}
-use Rattle.table.specs.declared.TableRefusal.TheVariants.{Limit, Range, Repeated, Memory}
-use Rattle.table.specs.Records.{has, each, repeated, is_transition, is_divergence, is_label, same_transition, same_divergence, same_label, counts_inside, transition_inside, divergence_inside, label_inside}
-use Rattle.table.specs.Table.{table_lts, table_refusal, Refuses}
+use Rattle.table.specs.Records.{has, each, repeated, is_transition, is_divergence, is_label, same_transition, transition_inside, divergence_inside, label_inside}
+use Rattle.table.specs.Table.{table_lts}
 use Rattle.table.specs.TableAnswers.{empty_set, in_set, held_transitions, held_lts, zero_transition}
 use Rattle.table.proofs.Listing.{each_at, has_at}
 use Rattle.table.proofs.Builds.{listed, listed_once}

@@ -1,5 +1,5 @@
 -- What a table means, and when it is refused.
-use Rattle.std.specs.Prelude.{◌≡◌, ℕ, Bool, cond, ◌&&◌, ◌||◌, List, length, Some, None, Option, nat_le}
+use Rattle.std.specs.Prelude.{◌≡◌, ℕ, cond, ◌&&◌, ◌||◌, List, length, Some, None, Option, nat_le}
 use Rattle.records.specs.declared.Counts.{Counts}
 use Rattle.records.specs.declared.Transition.{Transition}
 use Rattle.records.specs.declared.Divergence.{Divergence}

@@ -1,4 +1,5 @@
 //! A source held in memory: the records of a flow text.
+#![tactic(auto)]
 
 ghost use Rattle.std.specs.Prelude.{◌≡◌, ℕ, ◌+◌, ◌-◌, ◌*◌, length, Some, None, MatchResult, slice_index};
 ghost use Rattle.sorting.specs.Sorting.{start};

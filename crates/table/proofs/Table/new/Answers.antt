@@ -1,4 +1,4 @@
-use Rattle.std.proofs.Common.{sym, ◌∙◌}
+use Rattle.std.proofs.Common.{sym}
 use Rattle.table.proofs.Verdicts.{some_refuses}
 use Rattle.table.proofs.Table.new.Goals as goal
 

@@ -1,4 +1,4 @@
-use Rattle.std.proofs.Common.{Bool, ◌||◌, ap, ◌∙◌, ap₂, arith}
+use Rattle.std.proofs.Common.{Bool, ◌||◌, ◌∙◌, ap₂, arith}
 use Rattle.table.proofs.Ranges.{four, transitions_small, divergences_small, labels_small, transitions_same}
 use Rattle.table.proofs.checks.any_repeated.Goals as goal
 

@@ -1,4 +1,4 @@
-use Rattle.std.proofs.Common.{◌≡◌, ℕ, true, sym, arith}
+use Rattle.std.proofs.Common.{◌≡◌, true, sym, arith}
 use Rattle.table.proofs.Listing.{items_more, each_from, each_fails}
 use Rattle.table.proofs.entries.all_inside.Goals as goal
 

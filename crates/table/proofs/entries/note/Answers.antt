@@ -1,4 +1,4 @@
-use Rattle.std.proofs.Common.{◌≡◌, ℕ, ◌<◌, ◌&&◌, ◌||◌, eqb, ltb, length, get_or, take, sym, ap, ◌∙◌, arith, take_all}
+use Rattle.std.proofs.Common.{◌<◌, ◌&&◌, ◌||◌, eqb, ltb, length, get_or, ap, ◌∙◌, arith, take_all}
 use Rattle.lts.specs.Sets.{member}
 use Rattle.table.specs.Records.{has}
 use Rattle.table.specs.TableAnswers.{empty_set}

@@ -1,4 +1,4 @@
-use Rattle.std.proofs.Common.{◌≡◌, ℕ, Bool, length, Some, None, Option, sym, ◌∙◌, arith, length-set}
+use Rattle.std.proofs.Common.{◌≡◌, ℕ, Bool, Some, None, Option, ◌∙◌, arith, length-set}
 use Rattle.table.proofs.Pairing.{paired_more, front_repeated}
 use Rattle.table.proofs.entries.repeats.Goals as goal
 
