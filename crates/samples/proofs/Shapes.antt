@@ -1,5 +1,5 @@
 -- Nested systems with the same parts are the same.
-use Rattle.std.proofs.Common.{◌≡◌, ℕ, Bool, List, length, ap, ◌∙◌}
+use Rattle.std.proofs.Common.{◌≡◌, List, length, ap, ◌∙◌}
 use Rattle.semantics.specs.Lts.{Lts}
 use Rattle.lts.specs.declared.sets.SmallSet.{SmallSet}
 use Rattle.lts.specs.Sets.{member}

@@ -1,4 +1,5 @@
 //! Small systems: what the definitions compute on them, and sources nested in one another.
+#![tactic(auto)]
 
 ghost use Rattle.std.specs.Prelude.{◌≡◌, ℕ, IfOk};
 ghost use Rattle.semantics.specs.Lts.{all};
