@@ -1,6 +1,7 @@
 //! Makes a table of 2,048 transitions and asks all its questions, and the same of the table joined to a queue, as
 //! often as standard input says. It prints a sum of the answers, which another program computes too: `bench/sources`
 //! times the two.
+#![tactic(auto)]
 
 use joined::Joined;
 use lts::Source;

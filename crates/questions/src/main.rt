@@ -4,6 +4,7 @@
 //! (states, actions, atoms; a number of transitions and three numbers for each; a number of divergences and two for
 //! each; a number of labels and two for each), a queue (capacity, actions, put, take), the shared actions as bits, and
 //! a number of action sets as bits. A source that is refused is printed as `refused` with its number.
+#![tactic(auto)]
 
 use crate::report::report;
 use crate::script::Script;
