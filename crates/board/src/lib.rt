@@ -2,6 +2,7 @@
 //! worklist, and the links from each variable to the operands that name it.
 //!
 //! Each method says which lists it leaves, with no condition: past the end of a list nothing is read or written.
+#![tactic(auto)]
 
 pub mod board;
 pub mod links;

@@ -8,7 +8,7 @@ use Rattle.board.proofs.board.Board.renew.Goals as goal
 pub returns-then-states-n-le8192 : goal.returns-then-states-n-le8192
 unfolding renewed
 returns-then-states-n-le8192 c =
-    record { answer = search rules; after = by_yes (room? c.args.states (length c.args.records.now)) (view c.args.self.now) _ (fresh c.args.states (book_of c.args.records.now)) (search rules) c.renew-within.ensures }
+    record { answer = search rules; after = by_yes (room? c.args.states (length c.args.records.now)) (view c.args.self.now) _ (fresh c.args.states (book_of c.args.records.now)) (search rules) c.renew_within.ensures }
 
 pub returns-else-states-le8192 : goal.returns-else-states-le8192
 unfolding renewed
