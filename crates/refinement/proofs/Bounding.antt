@@ -1,5 +1,5 @@
 -- All looks can be counted.
-use Rattle.std.proofs.Common.{◌≡◌, ℕ, zero, suc, ◌+◌, ◌-◌, ◌*◌, ◌/◌, ◌%◌, ◌^◌, ◌<◌, ◌≤◌, Bool, true, false, ◌&&◌, ◌||◌, eqb, ltb, ◌⊎◌, List, [], ◌∷◌, ◌++◌, map, length, get_or, take, Some, sym, refl, ap, ◌∙◌, subst, inl, inr, mul-le-mul_left, arith}
+use Rattle.std.proofs.Common.{◌≡◌, ℕ, zero, suc, ◌+◌, ◌*◌, ◌<◌, ◌≤◌, true, false, ◌||◌, eqb, ltb, ◌⊎◌, List, [], ◌∷◌, ◌++◌, map, length, get_or, take, Some, sym, refl, ◌∙◌, subst, inl, inr, mul-le-mul_left, arith}
 use Rattle.std.proofs.lemmas.Bool.{both_ways, and_parts, or_left, or_right, or_cases, ltb-true, cases_lt}
 use Rattle.std.proofs.lemmas.List.{get_or_past}
 use Rattle.std.proofs.lemmas.Nat.{div_below, mod_below}
@@ -8,14 +8,14 @@ use Rattle.lts.specs.Source.{Answers, Shows}
 use Rattle.records.specs.declared.Fixpoint.{Fixpoint}
 use Rattle.refinement.proofs.Tables.{eqb_same}
 use Rattle.refinement.proofs.Totals.{AllFormed}
-use Rattle.refinement.specs.Represents.{Listed, Shown, elem, pair_at}
+use Rattle.refinement.specs.Represents.{Shown, elem, pair_at}
 use Rattle.semantics.proofs.Looks.{costs_bound}
 use Rattle.semantics.proofs.Pairs.{Inside, costs_push, inside_push, once_push}
 use Rattle.semantics.proofs.Sums.{sum_const, sum_first, sum_le}
 use Rattle.semantics.specs.Equations.{cost, nth}
-use Rattle.semantics.specs.Law.{Once, crossings, junction, most_looks}
+use Rattle.semantics.specs.Law.{crossings, junction, most_looks}
 use Rattle.semantics.specs.Lts.{Lts, all, on, sum}
-use Rattle.semantics.specs.Plain.{among, costs, well_formed}
+use Rattle.semantics.specs.Plain.{among, well_formed}
 use Rattle.semantics.specs.declared.Equation.{Equation}
 use Rattle.semantics.specs.declared.Form.{Form}
 use Rattle.semantics.specs.declared.Form.TheVariants.{And, Atom, Box, Diamond, False, Or, True}

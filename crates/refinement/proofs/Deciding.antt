@@ -1,5 +1,5 @@
 -- When the pairs taken decide an equation, by its operands left and gone; and what one more pair changes.
-use Rattle.std.proofs.Common.{◌≡◌, ℕ, zero, suc, ◌+◌, ◌-◌, ◌*◌, ◌<◌, ◌≤◌, Bool, true, false, cond, not, ◌&&◌, ◌||◌, eqb, ltb, List, [], ◌∷◌, ◌++◌, sym, refl, ap, ◌∙◌, subst, ap₂, subst₂, arith}
+use Rattle.std.proofs.Common.{◌≡◌, ℕ, zero, suc, ◌+◌, ◌<◌, Bool, true, false, cond, not, ◌&&◌, ◌||◌, eqb, ltb, List, [], ◌∷◌, ◌++◌, sym, refl, ap, ◌∙◌, ap₂, subst₂, arith}
 use mathlib.Core.Bool.{beq}
 use Rattle.std.proofs.lemmas.Bool.{both_ways, and_parts, or_left, eqb-true, ne_eqb, lt-ltb}
 use Rattle.records.specs.declared.Fixpoint.{Fixpoint}
@@ -9,10 +9,9 @@ use Rattle.refinement.specs.Represents.{left}
 use Rattle.refinement.specs.Sides.{at_first, counted, may_turn, operands}
 use Rattle.semantics.proofs.Pairs.{among_push}
 use Rattle.semantics.proofs.Sums.{sum_at, sum_const, sum_eq, sum_plus}
-use Rattle.semantics.specs.Equations.{Marking, start, truth}
+use Rattle.semantics.specs.Equations.{start, truth}
 use Rattle.semantics.specs.Lts.{Lts, every, out_of, some, sum}
 use Rattle.semantics.specs.Plain.{among, changed}
-use Rattle.semantics.specs.declared.Equation.{Equation}
 use Rattle.semantics.specs.declared.Form.{Form}
 use Rattle.semantics.specs.declared.Form.TheVariants.{And, Atom, Box, Diamond, False, Or, True}
 use Rattle.semantics.specs.declared.Pair.{Pair}

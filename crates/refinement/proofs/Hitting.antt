@@ -1,19 +1,17 @@
 -- What a number of hits makes of one pair.
-use Rattle.std.proofs.Common.{◌≡◌, ℕ, zero, suc, ◌+◌, ◌-◌, ◌*◌, ◌<◌, ◌≤◌, min, Bool, true, false, cond, not, ◌&&◌, ◌||◌, eqb, ltb, leb, ◌⊎◌, List, [], ◌∷◌, ◌++◌, length, get_or, set, sym, refl, ap, ◌∙◌, subst, ap₂, subst₂, inl, inr, arith, length-set}
-use Rattle.std.proofs.lemmas.Bool.{eqb-true, eq-eqb, ne_eqb, le-leb, lt-leb, lt-ltb, leb-true, cases_Bool, cases_lt, le-ltb, cond_both, cond-true, cond-false, or_left, and_from, and_left, and_parts, both_ways}
-use Rattle.std.proofs.lemmas.List.{get_or_default}
-use Rattle.board.specs.State.{State, looked, most, pair?, place, with_counts}
-use Rattle.board.specs.Turning.{strike, struck, lower, put, spent, turn}
+use Rattle.std.proofs.Common.{◌≡◌, ℕ, ◌+◌, ◌-◌, ◌*◌, ◌<◌, ◌≤◌, min, Bool, true, false, cond, ◌&&◌, ◌||◌, eqb, ltb, leb, ◌⊎◌, List, length, get_or, sym, refl, ap, ◌∙◌, subst, ap₂, subst₂, inl, inr, arith}
+use Rattle.std.proofs.lemmas.Bool.{eqb-true, eq-eqb, ne_eqb, le-leb, lt-leb, lt-ltb, leb-true, cases_Bool, cases_lt, le-ltb, cond_both, cond-true, cond-false, and_from, and_left, and_parts, both_ways}
+use Rattle.board.specs.State.{State, looked, most, pair?, place}
+use Rattle.board.specs.Turning.{strike, struck, lower, turn}
 use Rattle.lts.specs.Source.{Answers}
 use Rattle.records.specs.declared.Fixpoint.{Fixpoint}
-use Rattle.refinement.proofs.Listing.{Puts, Same, Turns, puts, same_all, same_then, turns}
-use Rattle.refinement.proofs.Tables.{eqb_same, get_d_set, place_eqb, place_low}
+use Rattle.refinement.proofs.Listing.{Same, puts, same_all, same_then, turns}
+use Rattle.refinement.proofs.Tables.{eqb_same, place_eqb}
 use Rattle.refinement.specs.Represents.{Listed}
 use Rattle.refinement.specs.Sides.{counted, may_turn}
 use Rattle.refinement.specs.Taking.{hit}
 use Rattle.semantics.specs.Equations.{nth}
 use Rattle.semantics.specs.declared.Equation.{Equation}
-use Rattle.semantics.specs.declared.Form.{Form}
 
 -- m hits turn a pair that has c operands left: the last of them where they are counted, else the first
 abbrev pub fires : (counted may : Bool) → (c m : ℕ) → Bool

@@ -1,11 +1,11 @@
 -- The links lead to each place that names a variable.
-use Rattle.std.proofs.Common.{◌≡◌, ℕ, zero, suc, ◌+◌, ◌-◌, ◌*◌, ◌/◌, ◌%◌, ◌<◌, ◌≤◌, Bool, true, false, cond, not, ◌&&◌, ◌||◌, eqb, ◌⊎◌, List, [], ◌∷◌, ◌++◌, length, get_or, set, replicate, sym, refl, ap, ◌∙◌, subst, ap₂, subst₂, inl, inr, arith, length-set}
+use Rattle.std.proofs.Common.{◌≡◌, ℕ, zero, suc, ◌+◌, ◌*◌, ◌/◌, ◌<◌, ◌≤◌, Bool, true, false, eqb, ◌⊎◌, List, [], ◌∷◌, ◌++◌, length, get_or, set, replicate, sym, refl, ap, ◌∙◌, subst, inl, inr, arith, length-set}
 use lib.ListN.{length-replicate, get_or-replicate}
-use Rattle.std.proofs.lemmas.Bool.{eqb-true, eqb-false, cases_Bool, cases_lt, cond_both, both_ways, and_parts, and_left, and_right}
+use Rattle.std.proofs.lemmas.Bool.{eqb-true, cases_lt, cond_both, both_ways, and_parts, and_left, and_right}
 use Rattle.std.proofs.lemmas.List.{get_or_append_left, get_or_push, length_push}
 use Rattle.board.specs.Each.{each}
 use Rattle.board.specs.Links.{Links, is_first, link, linked, names, variable, variable?}
-use Rattle.refinement.proofs.Tables.{eqb_same, get_d_set}
+use Rattle.refinement.proofs.Tables.{get_d_set}
 use Rattle.semantics.specs.Equations.{nth}
 use Rattle.semantics.specs.declared.Equation.{Equation}
 

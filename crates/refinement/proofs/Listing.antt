@@ -1,11 +1,11 @@
 -- What one turn changes, and what it keeps.
-use Rattle.std.proofs.Common.{◌≡◌, ℕ, zero, suc, ◌+◌, ◌-◌, ◌*◌, ◌<◌, ◌≤◌, Bool, true, false, cond, not, ◌&&◌, ◌||◌, eqb, ◌⊎◌, List, [], ◌∷◌, ◌++◌, length, get_or, set, sym, refl, ap, ◌∙◌, subst, ap₂, inl, inr, append_assoc, append-nil, arith, length-set}
+use Rattle.std.proofs.Common.{◌≡◌, ℕ, ◌<◌, Bool, true, false, cond, ◌&&◌, ◌||◌, eqb, ◌⊎◌, List, [], ◌∷◌, ◌++◌, length, get_or, set, sym, refl, ap, ◌∙◌, subst, inl, inr, append_assoc, append-nil, length-set}
 use Rattle.std.proofs.lemmas.Bool.{eqb-true, cases_Bool, cond_both, or_left}
 use Rattle.std.proofs.lemmas.List.{get_or_default, get_or-set_same}
 use Rattle.board.specs.State.{State, with_turn}
 use Rattle.board.specs.Turning.{put, spent, turn}
 use Rattle.refinement.proofs.Tables.{distinct_push, elem_push, get_d_set}
-use Rattle.refinement.specs.Represents.{Distinct, Listed, elem}
+use Rattle.refinement.specs.Represents.{Listed}
 
 -- all but what has turned, the counts and the looks
 pub record Same (σ τ : State) : Type 0 where

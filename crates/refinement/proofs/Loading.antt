@@ -1,7 +1,7 @@
 -- A new book, with what is decided at once.
-use Rattle.std.proofs.Common.{◌≡◌, ℕ, zero, suc, ◌+◌, ◌-◌, ◌*◌, ◌/◌, ◌%◌, ◌<◌, ◌≤◌, Bool, true, false, cond, not, ◌&&◌, ◌||◌, eqb, ltb, ◌⊎◌, List, [], ◌∷◌, ◌++◌, map, length, get_or, take, set, replicate, Some, sym, refl, ap, ◌∙◌, subst, ap₂, subst₂, inl, inr, arith}
+use Rattle.std.proofs.Common.{◌≡◌, ℕ, zero, suc, ◌+◌, ◌*◌, ◌<◌, ◌≤◌, Bool, true, false, cond, ◌&&◌, ◌||◌, eqb, ltb, ◌⊎◌, List, [], map, length, get_or, take, replicate, sym, refl, ap, ◌∙◌, subst, ap₂, subst₂, inl, inr, arith}
 use lib.ListN.{length-replicate, get_or-replicate}
-use Rattle.std.proofs.lemmas.Bool.{both_ways, and_from, and_parts, cond-true, lt-ltb, ltb-true, eqb-true, ne_eqb, cases_Bool, cases_lt, cond_both}
+use Rattle.std.proofs.lemmas.Bool.{both_ways, and_from, and_parts, cond-true, lt-ltb, eqb-true, ne_eqb, cases_Bool, cases_lt, cond_both}
 use Rattle.std.proofs.lemmas.List.{get_or_past}
 use Rattle.board.specs.Each.{each}
 use Rattle.board.specs.Renewing.{fresh}
@@ -9,8 +9,8 @@ use Rattle.board.specs.State.{State, pair?, place}
 use Rattle.board.specs.Turning.{opened, opening, put, spent, turn}
 use Rattle.lts.specs.Source.{Answers, Shows}
 use Rattle.records.specs.declared.Fixpoint.{Fixpoint}
-use Rattle.refinement.proofs.Deciding.{decides, decides_counted, decides_free, gone, gone_none, left_none}
-use Rattle.refinement.proofs.Listing.{Puts, Same, Turns, puts, same_all, same_then, turns}
+use Rattle.refinement.proofs.Deciding.{decides, decides_counted, decides_free, gone_none, left_none}
+use Rattle.refinement.proofs.Listing.{Same, puts, same_all, same_then, turns}
 use Rattle.refinement.proofs.Tables.{eqb_same, place_eqb, place_low}
 use Rattle.refinement.proofs.Taking.{may_same}
 use Rattle.refinement.proofs.Totals.{AllFormed}
@@ -20,11 +20,9 @@ use Rattle.refinement.specs.Taking.{begin, begun}
 use Rattle.semantics.specs.Equations.{nth, true_at}
 use Rattle.semantics.specs.Law.{Once}
 use Rattle.semantics.specs.Lts.{Lts, out_of}
-use Rattle.semantics.specs.Plain.{among, costs, decided, turned, well_formed}
+use Rattle.semantics.specs.Plain.{among, costs, decided, turned}
 use Rattle.semantics.specs.declared.Equation.{Equation}
 use Rattle.semantics.specs.declared.Form.{Form}
-use Rattle.semantics.specs.declared.Form.TheVariants.{And, Atom, Box, Diamond, False, Or, True}
-use Rattle.semantics.specs.declared.Pair.{Pair}
 
 -- a source's answers are the system's where they count
 

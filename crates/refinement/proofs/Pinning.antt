@@ -1,12 +1,12 @@
 -- One more pin.
-use Rattle.std.proofs.Common.{◌≡◌, ℕ, zero, suc, ◌+◌, ◌*◌, ◌<◌, ◌≤◌, Bool, true, false, cond, not, ◌&&◌, ◌||◌, eqb, List, [], ◌∷◌, ◌++◌, map, length, get_or, take, set, sym, refl, ap, ◌∙◌, subst, ap₂, arith, length-append, length-set}
+use Rattle.std.proofs.Common.{◌≡◌, ℕ, ◌+◌, ◌*◌, ◌<◌, Bool, true, false, cond, ◌&&◌, ◌||◌, eqb, List, ◌∷◌, map, length, get_or, take, set, refl, ap, ◌∙◌, ap₂, arith, length-append, length-set}
 use Rattle.std.proofs.lemmas.List.{take-append-le}
 use Rattle.board.specs.State.{State, with_pinned}
 use Rattle.board.specs.Turning.{pin_at, turn}
 use Rattle.records.specs.declared.Fixpoint.{Fixpoint}
 use Rattle.refinement.proofs.Listing.{Same, Turns, turns}
 use Rattle.refinement.proofs.Tables.{get_d_set, place_eqb, place_low}
-use Rattle.refinement.specs.Represents.{Listed, Shown, pair_at}
+use Rattle.refinement.specs.Represents.{Shown, pair_at}
 use Rattle.semantics.specs.Lts.{Lts}
 use Rattle.semantics.specs.Plain.{among, decided, pair, turned}
 use Rattle.semantics.specs.declared.Equation.{Equation}

@@ -1,5 +1,5 @@
 -- Every call, on a board that represents a plain session.
-use Rattle.std.proofs.Common.{◌≡◌, ℕ, zero, suc, ◌+◌, ◌-◌, ◌*◌, ◌<◌, ◌≤◌, Bool, true, false, cond, not, ◌&&◌, ◌||◌, ltb, leb, List, [], ◌∷◌, ◌++◌, length, get_or, sym, refl, ap, ◌∙◌, subst, ap₂, subst₂, arith}
+use Rattle.std.proofs.Common.{◌≡◌, ℕ, ◌+◌, ◌-◌, ◌<◌, Bool, true, false, cond, not, ◌&&◌, ltb, leb, List, [], ◌∷◌, ◌++◌, length, get_or, sym, refl, ap, ◌∙◌, subst, ap₂, subst₂, arith}
 use Rattle.std.proofs.lemmas.Bool.{and_parts, ltb-true}
 use Rattle.records.specs.declared.Fixpoint.{Fixpoint}
 use Rattle.records.specs.declared.EquationRecord.{EquationRecord}
@@ -8,14 +8,14 @@ use Rattle.semantics.specs.declared.Pair.{Pair}
 use Rattle.semantics.specs.declared.Mark.{Mark}
 use Rattle.semantics.specs.Lts.{Lts}
 use Rattle.semantics.specs.Equations.{start}
-use Rattle.semantics.specs.Plain.{pair, settled, standing, costs, book_of, proper, fits, mark_of, page, PlainCall, load, pin, run, query, sheet, PlainAnswer, refused, loaded, pinned, ran, told, written, Plain, no_book, book, has_pair, answer_to, after, Allowed}
+use Rattle.semantics.specs.Plain.{pair, settled, standing, costs, book_of, proper, fits, mark_of, PlainCall, load, pin, run, query, sheet, PlainAnswer, refused, loaded, pinned, ran, told, written, Plain, no_book, book, has_pair, answer_to, after, Allowed}
 use Rattle.lts.specs.Source.{Answers, Shows}
-use Rattle.board.specs.State.{State, blank, place, pair?, waiting}
+use Rattle.board.specs.State.{State, place, pair?, waiting}
 use Rattle.board.specs.Turning.{pin_at}
 use Rattle.refinement.specs.Sheet.{on_at, sheet_of}
 use Rattle.refinement.specs.Taking.{begun}
 use Rattle.refinement.specs.Taking as taking
-use Rattle.refinement.specs.Calls.{sized, stepped, told_by}
+use Rattle.refinement.specs.Calls.{stepped, told_by}
 use Rattle.refinement.specs.Represents.{Shown, Represents}
 use Rattle.refinement.specs.Refines.{Refined, Refines}
 use Rattle.refinement.proofs.Loading.{begun_shown}

@@ -1,18 +1,17 @@
 -- Running: pairs taken one after another, and when none waits.
-use Rattle.std.proofs.Common.{◌≡◌, ℕ, zero, suc, ◌+◌, ◌-◌, ◌*◌, ◌/◌, ◌%◌, ◌<◌, ◌≤◌, Bool, true, false, cond, not, ◌&&◌, ◌||◌, eqb, ltb, ◌⊎◌, List, [], ◌∷◌, ◌++◌, map, length, get_or, take, sym, refl, ap, ◌∙◌, subst, ap₂, subst₂, inl, inr, append_assoc, append-nil, arith}
-use Rattle.std.proofs.lemmas.Bool.{both_ways, ltb-true, ltb-false, and_left, and_right, not-true, not_from_true, not_from_false, cases_Bool, cond_both, cond-true, cond-false}
+use Rattle.std.proofs.Common.{◌≡◌, ℕ, zero, suc, ◌+◌, ◌*◌, ◌<◌, ◌≤◌, true, false, not, ◌&&◌, ◌⊎◌, List, [], ◌∷◌, ◌++◌, map, length, sym, refl, ap, ◌∙◌, subst₂, inl, inr, append_assoc, append-nil, arith}
+use Rattle.std.proofs.lemmas.Bool.{both_ways, ltb-false, and_left, and_right, not-true, not_from_true, not_from_false, cases_Bool, cond_both}
 use Rattle.std.proofs.lemmas.List.{take_all}
-use Rattle.board.specs.State.{State, front, waiting}
+use Rattle.board.specs.State.{State, waiting}
 use Rattle.lts.specs.Source.{Answers, Shows}
 use Rattle.records.specs.declared.Fixpoint.{Fixpoint}
 use Rattle.refinement.proofs.Tables.{among_elem}
 use Rattle.refinement.proofs.Taking.{Took, next_pair, take_one}
-use Rattle.refinement.specs.Represents.{Shown, elem, pair_at}
+use Rattle.refinement.specs.Represents.{Shown, pair_at}
 use Rattle.refinement.specs.Taking.{ran, take_next}
-use Rattle.semantics.proofs.Bools.{same_bool}
 use Rattle.semantics.proofs.Everywhere.{every_at, every_from}
 use Rattle.semantics.specs.Equations.{cost}
-use Rattle.semantics.specs.Lts.{Lts, every}
+use Rattle.semantics.specs.Lts.{Lts}
 use Rattle.semantics.specs.Plain.{Takes, among, costs, settled, turned, waits}
 use Rattle.semantics.specs.declared.Equation.{Equation}
 use Rattle.semantics.specs.declared.Pair.{Pair}

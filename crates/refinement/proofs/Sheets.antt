@@ -1,14 +1,14 @@
 -- The sheet of a board is that of its plain session.
-use Rattle.std.proofs.Common.{◌≡◌, ℕ, zero, suc, ◌+◌, ◌*◌, ◌<◌, ◌≤◌, Bool, cond, not, List, [], ◌∷◌, ◌++◌, length, get_or, codes, decimal, sym, refl, ap, ◌∙◌, ap₂, append_assoc, arith}
+use Rattle.std.proofs.Common.{◌≡◌, ℕ, zero, suc, ◌+◌, ◌*◌, ◌<◌, ◌≤◌, Bool, cond, not, List, [], ◌∷◌, ◌++◌, length, codes, decimal, sym, refl, ap, ◌∙◌, ap₂, append_assoc, arith}
 use Rattle.records.specs.declared.Fixpoint.{Fixpoint}
 use Rattle.semantics.specs.declared.Equation.{Equation}
 use Rattle.semantics.specs.declared.Pair.{Pair}
 use Rattle.semantics.specs.Lts.{Lts, sum}
 use Rattle.semantics.specs.Equations.{start, Marking}
-use Rattle.semantics.specs.Plain.{turned, settled, standing, marked, letter, lines, page}
+use Rattle.semantics.specs.Plain.{settled, standing, marked, letter, lines, page}
 use Rattle.semantics.proofs.Sums.{sum_eq}
 use Rattle.lts.specs.Source.{Answers, Shows}
-use Rattle.board.specs.State.{State, waiting}
+use Rattle.board.specs.State.{State}
 use Rattle.refinement.specs.Sheet.{on_at, on_below, line, lines_below, top, sheet_of}
 use Rattle.refinement.specs.Represents.{Shown}
 use Rattle.refinement.proofs.Running.{settled_is}

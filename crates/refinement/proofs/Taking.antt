@@ -1,6 +1,6 @@
 -- Taking the next pair of the worklist.
-use Rattle.std.proofs.Common.{◌≡◌, ℕ, zero, suc, ◌+◌, ◌-◌, ◌*◌, ◌/◌, ◌%◌, ◌<◌, ◌≤◌, Bool, true, false, cond, not, ◌&&◌, ◌||◌, eqb, ltb, leb, ◌⊎◌, List, [], ◌∷◌, ◌++◌, map, length, get_or, take, Some, sym, refl, ap, ◌∙◌, subst, ap₂, subst₂, inl, inr, arith, length-append}
-use Rattle.std.proofs.lemmas.Bool.{both_ways, and_from, and_parts, or_left, ltb-true, not_from_false, cases_Bool, cases_lt, eq-eqb, ne_eqb, le-leb, lt-leb, lt-ltb, cond-false}
+use Rattle.std.proofs.Common.{◌≡◌, ℕ, zero, suc, ◌+◌, ◌-◌, ◌*◌, ◌/◌, ◌%◌, ◌<◌, ◌≤◌, Bool, true, false, cond, not, ◌&&◌, ◌||◌, eqb, ltb, leb, ◌⊎◌, List, [], ◌∷◌, ◌++◌, map, length, get_or, take, sym, refl, ap, ◌∙◌, subst, ap₂, subst₂, inl, inr, arith, length-append}
+use Rattle.std.proofs.lemmas.Bool.{and_from, or_left, ltb-true, not_from_false, cases_Bool, cases_lt, eq-eqb, ne_eqb, le-leb, lt-leb, lt-ltb, cond-false}
 use Rattle.std.proofs.lemmas.List.{take_more, take-append-le, map_push}
 use Rattle.std.proofs.lemmas.Nat.{div-add-mod', div_below, mod_below}
 use Rattle.board.specs.Links.{linked, names}
@@ -15,16 +15,15 @@ use Rattle.refinement.proofs.Listing.{Same}
 use Rattle.refinement.proofs.Tables.{among_elem, elem_at, elem_before}
 use Rattle.refinement.proofs.Totals.{all_hits, all_looks, within}
 use Rattle.refinement.proofs.Visiting.{hits, looks_by, sum_gap, walks}
-use Rattle.refinement.specs.Represents.{Listed, Shown, elem, left, pair_at}
+use Rattle.refinement.specs.Represents.{Shown, elem, left, pair_at}
 use Rattle.refinement.specs.Sides.{at_first, counted, may_turn}
-use Rattle.refinement.specs.Taking.{take_next, walk}
+use Rattle.refinement.specs.Taking.{take_next}
 use Rattle.semantics.proofs.Pairs.{costs_push, once_push}
 use Rattle.semantics.specs.Equations.{cost, nth, true_at}
 use Rattle.semantics.specs.Lts.{Lts, sum}
-use Rattle.semantics.specs.Plain.{among, decided, turned, waits, well_formed}
+use Rattle.semantics.specs.Plain.{among, decided, turned, waits}
 use Rattle.semantics.specs.declared.Equation.{Equation}
 use Rattle.semantics.specs.declared.Form.{Form}
-use Rattle.semantics.specs.declared.Form.TheVariants.{And, Atom, Box, Diamond, False, Or, True}
 use Rattle.semantics.specs.declared.Pair.{Pair}
 
 -- What w operands more decide

@@ -1,5 +1,5 @@
 -- The hits and looks of all places together: what the pair taken changes, and its cost.
-use Rattle.std.proofs.Common.{◌≡◌, ℕ, zero, suc, ◌+◌, ◌-◌, ◌*◌, ◌/◌, ◌%◌, ◌<◌, ◌≤◌, Bool, true, false, cond, not, ◌&&◌, ◌||◌, eqb, ltb, List, [], ◌∷◌, ◌++◌, length, Some, sym, refl, ap, ◌∙◌, subst, ap₂, subst₂, arith}
+use Rattle.std.proofs.Common.{◌≡◌, ℕ, zero, suc, ◌+◌, ◌*◌, ◌/◌, ◌%◌, ◌<◌, Bool, true, false, cond, ◌&&◌, eqb, ltb, List, length, Some, refl, ap, ◌∙◌, ap₂, arith}
 use Rattle.std.proofs.lemmas.Bool.{both_ways, and_parts, ltb-true, eq-eqb, ne_eqb}
 use Rattle.board.specs.Links.{first?, is_first, names, second?, variable, variable?}
 use Rattle.lts.specs.Source.{Answers, Shows, one_if}
@@ -9,7 +9,7 @@ use Rattle.refinement.proofs.Tables.{eqb_sym}
 use Rattle.refinement.proofs.Visiting.{hits, looks_by}
 use Rattle.semantics.proofs.Sums.{sum_at, sum_eq}
 use Rattle.semantics.specs.Equations.{cost, looks_of, nth}
-use Rattle.semantics.specs.Lts.{Lts, into, sum}
+use Rattle.semantics.specs.Lts.{Lts, sum}
 use Rattle.semantics.specs.Plain.{well_formed}
 use Rattle.semantics.specs.declared.Equation.{Equation}
 use Rattle.semantics.specs.declared.Form.{Form}

@@ -1,6 +1,6 @@
 -- What a walk along the links makes of one pair.
-use Rattle.std.proofs.Common.{◌≡◌, ℕ, zero, suc, ◌+◌, ◌-◌, ◌*◌, ◌/◌, ◌%◌, ◌<◌, ◌≤◌, Bool, true, false, cond, not, ◌&&◌, ◌||◌, eqb, ltb, ◌⊎◌, List, [], ◌∷◌, ◌++◌, length, get_or, Some, None, Option, sym, refl, ap, ◌∙◌, subst, ap₂, subst₂, inl, inr, arith}
-use Rattle.std.proofs.lemmas.Bool.{eqb-true, ne_eqb, ltb-true, ltb-false, lt-ltb, cases_Bool, cases_lt, cond_both, cond-true, cond-false}
+use Rattle.std.proofs.Common.{◌≡◌, ℕ, zero, suc, ◌+◌, ◌*◌, ◌/◌, ◌<◌, ◌≤◌, Bool, true, false, cond, ◌&&◌, eqb, ◌⊎◌, List, length, get_or, Some, None, Option, sym, refl, ap, subst, subst₂, inl, inr, arith}
+use Rattle.std.proofs.lemmas.Bool.{ne_eqb, cases_lt, cond-true, cond-false}
 use Rattle.board.specs.Each.{each}
 use Rattle.board.specs.Links.{names}
 use Rattle.board.specs.State.{State, looked}
@@ -8,8 +8,7 @@ use Rattle.lts.specs.Source.{Answers, one_if}
 use Rattle.records.specs.declared.Fixpoint.{Fixpoint}
 use Rattle.refinement.proofs.Hitting.{Reached, hit_outside, reached_hit, reached_look}
 use Rattle.refinement.proofs.Linking.{Last}
-use Rattle.refinement.proofs.Listing.{Same}
-use Rattle.refinement.proofs.Tables.{eqb_same, place_low}
+use Rattle.refinement.proofs.Tables.{place_low}
 use Rattle.refinement.specs.Taking.{hit, hit_from, visit, visit_form, walk}
 use Rattle.semantics.specs.Equations.{nth}
 use Rattle.semantics.specs.Lts.{sum}

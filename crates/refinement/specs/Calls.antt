@@ -1,7 +1,6 @@
 -- What a board answers to each call, and what it is after.
-use Rattle.std.specs.Prelude.{ℕ, ◌-◌, Bool, true, false, cond, not, ◌&&◌, List, length, nat_le, slice_index_or}
+use Rattle.std.specs.Prelude.{◌-◌, false, cond, not, ◌&&◌, length, nat_le, slice_index_or}
 use Rattle.records.specs.declared.Fixpoint.{Fixpoint}
-use Rattle.records.specs.declared.EquationRecord.{EquationRecord}
 use Rattle.semantics.specs.Lts.{Lts}
 use Rattle.semantics.specs.Plain.{book_of, proper, fits, mark_of, PlainCall, load, pin, run, query, sheet, PlainAnswer, refused, loaded, pinned, ran, told, written}
 use Rattle.lts.specs.Source.{Answers}

@@ -1,5 +1,5 @@
 -- When a board is a plain session.
-use Rattle.std.specs.Prelude.{◌≡◌, ℕ, ◌+◌, ◌*◌, ◌/◌, ◌%◌, ◌<◌, ◌≤◌, Bool, true, false, cond, ◌||◌, List, [], ◌∷◌, map, length, take, Some, Option, ◌==◌, slice_index, slice_index_or}
+use Rattle.std.specs.Prelude.{◌≡◌, ℕ, ◌+◌, ◌*◌, ◌/◌, ◌%◌, ◌<◌, ◌≤◌, Bool, true, false, cond, ◌||◌, List, [], ◌∷◌, map, length, take, Some, ◌==◌, slice_index, slice_index_or}
 use Rattle.board.specs.Links.{linked}
 use Rattle.board.specs.State.{State}
 use Rattle.records.specs.declared.Fixpoint.{Fixpoint}

@@ -1,4 +1,5 @@
 //! The engine as functions on lists, and the proof that it refines the plain session.
+#![tactic(auto)]
 
 ghost use Rattle.std.specs.Prelude.{◌≡◌, true};
 ghost use Rattle.refinement.specs.Refines.{Refines};
