@@ -2,6 +2,7 @@
 //!
 //! Taking a pair goes through the operands that name its variable, and for `<` and `[` through the predecessors of its
 //! state, and through nothing else: the looks that are counted are the steps that are made.
+#![tactic(auto)]
 
 pub mod accepts;
 pub mod begin;
