@@ -1,5 +1,5 @@
 -- The lines of a sheet, as the code comes to them.
-use Rattle.std.proofs.Common.{◌≡◌, ℕ, zero, suc, ◌+◌, ◌*◌, ◌≤◌, Bool, true, false, cond, not, List, [], ◌∷◌, ◌++◌, length, get_or, sym, refl, ap, ◌∙◌, ap₂, add-one, arith}
+use Rattle.std.proofs.Common.{◌≡◌, ℕ, ◌+◌, ◌*◌, ◌≤◌, Bool, true, false, cond, not, List, [], ◌∷◌, length, get_or, refl, ap, ◌∙◌, ap₂, add-one, arith}
 use mathlib.Core.Bool.{beq}
 use mir.Val.{bool_byte}
 use Rattle.std.proofs.lemmas.Bool.{both_ways}
@@ -9,7 +9,7 @@ use Rattle.semantics.specs.Lts.{sum}
 use Rattle.semantics.specs.Equations.{start}
 use Rattle.semantics.specs.Plain.{letter}
 use Rattle.board.specs.State.{State}
-use Rattle.refinement.specs.Sheet.{on_at, on_below, line, lines_below}
+use Rattle.refinement.specs.Sheet.{on_below, line, lines_below}
 use Rattle.sheet.specs.Ink.{Wrote}
 use Rattle.sheet.proofs.Inks.{then, inked_none}
 

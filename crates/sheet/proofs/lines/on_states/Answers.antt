@@ -9,8 +9,8 @@ loop-s-init g c = (on_none g.D.Side.fixpoint (view c.args.board.now) c.args.i, o
 
 pub loop-s-preserved : goal.loop-s-preserved
 loop-s-preserved g c =
-    let low = byte_low (not (beq c.turned-at-turned.result c.starts-on.result)) in (
-      on_more g.D.Side.fixpoint (view c.args.board.now) c.args.i c.loop-s.s c.equations.result c.turned-at-turned.result c.starts-on.result c.loop-s.count c.from-count.result
-          c.equations.ensures c.turned-at-turned.ensures c.starts-on.ensures c.loop-s.invariant.0 c.from-count.ensures,
+    let low = byte_low (not (beq c.turned_at-turned.result c.starts_on.result)) in (
+      on_more g.D.Side.fixpoint (view c.args.board.now) c.args.i c.loop-s.s c.equations.result c.turned_at-turned.result c.starts_on.result c.loop-s.count c.from-count.result
+          c.equations.ensures c.turned_at-turned.ensures c.starts_on.ensures c.loop-s.invariant.0 c.from-count.ensures,
       omega (arith, c.loop-s.invariant.1),
     )

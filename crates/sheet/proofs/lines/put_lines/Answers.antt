@@ -10,7 +10,7 @@ loop-i-init g c = (lines_none g.D.Side.fixpoint (view c.args.board.now) _ _, ome
 
 pub loop-i-preserved : goal.loop-i-preserved
 loop-i-preserved g c =
-    (lines_more g.D.Side.fixpoint (view c.args.board.now) c.loop-i.i c.states.result c.on-states-marked.result _ _ _ _ _ _ c.states.ensures c.on-states-marked.ensures.count c.loop-i.invariant.0 c.put-line-next.ensures.wrote, omega (arith, c.loop-i.invariant.1, c.put-line-next.ensures.bound))
+    (lines_more g.D.Side.fixpoint (view c.args.board.now) c.loop-i.i c.states.result c.on_states-marked.result _ _ _ _ _ _ c.states.ensures c.on_states-marked.ensures.count c.loop-i.invariant.0 c.put_line-next.ensures.wrote, omega (arith, c.loop-i.invariant.1, c.put_line-next.ensures.bound))
 
 pub returns : goal.returns
 returns g c =

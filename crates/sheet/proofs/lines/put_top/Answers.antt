@@ -4,14 +4,14 @@ use Rattle.sheet.proofs.lines.put_top.Goals as goal
 
 pub returns : goal.returns
 returns g c =
-    let m = c.put-bytes-a.ensures in
-    let l = same c.letter.ensures c.put-bytes-b.ensures in
-    let x = c.put-bytes-c.ensures in
-    let s = same (ap decimal c.states.ensures) c.put-number-d.ensures.wrote in
-    let y = c.put-bytes-e.ensures in
-    let n = same (ap decimal c.equations.ensures) c.put-number-f.ensures.wrote in
-    let z = c.put-bytes-g.ensures in
-    let w = same c.settled-digit.ensures c.put-bytes-h.ensures in
-    let u = c.put-bytes-i.ensures in
-    let k = same (ap decimal c.looks.ensures) c.put-number-j.ensures.wrote in
-    record { wrote = then (then (then (then (then (then (then (then (then (then m l) x) s) y) n) z) w) u) k) c.put-bytes.ensures; bound = omega (arith, c.put-bytes.ensures.next, c.put-number-j.ensures.bound, c.put-bytes-i.ensures.next, c.put-bytes-h.ensures.next, c.put-bytes-g.ensures.next, c.put-number-f.ensures.bound, c.put-bytes-e.ensures.next, c.put-number-d.ensures.bound, c.put-bytes-c.ensures.next, c.put-bytes-b.ensures.next, c.put-bytes-a.ensures.next) }
+    let m = c.put_bytes-a.ensures in
+    let l = same c.letter.ensures c.put_bytes-b.ensures in
+    let x = c.put_bytes-c.ensures in
+    let s = same (ap decimal c.states.ensures) c.put_number-d.ensures.wrote in
+    let y = c.put_bytes-e.ensures in
+    let n = same (ap decimal c.equations.ensures) c.put_number-f.ensures.wrote in
+    let z = c.put_bytes-g.ensures in
+    let w = same c.settled_digit.ensures c.put_bytes-h.ensures in
+    let u = c.put_bytes-i.ensures in
+    let k = same (ap decimal c.looks.ensures) c.put_number-j.ensures.wrote in
+    record { wrote = then (then (then (then (then (then (then (then (then (then m l) x) s) y) n) z) w) u) k) c.put_bytes.ensures; bound = omega (arith, c.put_bytes.ensures.next, c.put_number-j.ensures.bound, c.put_bytes-i.ensures.next, c.put_bytes-h.ensures.next, c.put_bytes-g.ensures.next, c.put_number-f.ensures.bound, c.put_bytes-e.ensures.next, c.put_number-d.ensures.bound, c.put_bytes-c.ensures.next, c.put_bytes-b.ensures.next, c.put_bytes-a.ensures.next) }

@@ -4,4 +4,4 @@ use Rattle.sheet.proofs.lines.write.Goals as goal
 
 pub returns : goal.returns
 unfolding sheet_of
-returns g c = record { bound = c.put-lines.ensures.bound; wrote = then c.put-top-next.ensures.wrote c.put-lines.ensures.wrote }
+returns g c = record { bound = c.put_lines.ensures.bound; wrote = then c.put_top-next.ensures.wrote c.put_lines.ensures.wrote }
