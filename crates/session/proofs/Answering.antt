@@ -1,5 +1,5 @@
 -- Each call does to the board what the engine's functions on lists do, so the session goes on standing for a plain session.
-use Rattle.std.proofs.Common.{◌≡◌, ℕ, zero, suc, ◌+◌, ◌-◌, ◌*◌, ◌<◌, ◌≤◌, Bool, true, false, cond, not, ◌&&◌, leb, List, [], ◌∷◌, ◌++◌, length, get_or, take, drop, Ok, Err, Result, sym, refl, ap, ◌∙◌, subst, ap₂, mul-suc, arith}
+use Rattle.std.proofs.Common.{◌≡◌, ℕ, zero, suc, ◌+◌, ◌-◌, ◌*◌, ◌<◌, ◌≤◌, Bool, true, false, cond, not, ◌&&◌, leb, List, [], ◌∷◌, length, get_or, take, drop, Ok, Err, Result, sym, refl, ap, ◌∙◌, subst, ap₂, mul-suc, arith}
 use mathlib.Core.Bool.{beq}
 use Rattle.std.proofs.lemmas.Bool.{and_parts, and_from, cond-true, cond-false, le-leb, lt-leb, leb-true}
 use Rattle.records.specs.declared.Fixpoint.{Fixpoint}
@@ -9,7 +9,7 @@ use Rattle.semantics.specs.declared.Refusal.{Refusal}
 use Rattle.semantics.specs.declared.Refusal.TheVariants.{NoBook, NoPair}
 use Rattle.semantics.specs.Lts.{Lts}
 use Rattle.semantics.specs.Equations.{start}
-use Rattle.semantics.specs.Plain.{book_of, proper, fits, mark_of, PlainCall, load, pin, run, query, sheet, PlainAnswer, refused, loaded, pinned, ran, told, written, Plain, no_book, answer_to, after, Event, Leads, nothing, next}
+use Rattle.semantics.specs.Plain.{book_of, proper, fits, mark_of, PlainCall, load, pin, run, query, sheet, PlainAnswer, refused, loaded, pinned, ran, told, written, no_book, after, Leads, nothing, next}
 use Rattle.semantics.specs.Calls.{number_of}
 use Rattle.semantics.proofs.Runs.{leads_append}
 use Rattle.lts.specs.Source as source

@@ -1,18 +1,18 @@
 -- No sheet has more than 71,780 bytes.
-use Rattle.std.proofs.Common.{◌≡◌, ℕ, zero, suc, ◌+◌, ◌*◌, ◌/◌, ◌^◌, ◌<◌, ◌≤◌, Bool, true, false, cond, eqb, List, [], ◌∷◌, ◌++◌, length, codes, decimal, sym, refl, ap, ◌∙◌, div-le_self, arith, length-append}
+use Rattle.std.proofs.Common.{◌≡◌, ℕ, zero, suc, ◌+◌, ◌*◌, ◌/◌, ◌^◌, ◌<◌, ◌≤◌, Bool, true, false, cond, eqb, List, length, codes, decimal, refl, div-le_self, arith, length-append}
 use Rattle.std.proofs.lemmas.Fmt.{length-decimal-le}
 use Rattle.std.proofs.lemmas.Bool.{cond_both}
 use Rattle.records.specs.declared.Fixpoint.{Fixpoint}
 use Rattle.records.specs.declared.Fixpoint.TheVariants.{Greatest, Least}
 use Rattle.semantics.specs.declared.Equation.{Equation}
 use Rattle.semantics.specs.declared.Pair.{Pair}
-use Rattle.semantics.specs.Lts.{Lts, sum}
+use Rattle.semantics.specs.Lts.{Lts}
 use Rattle.semantics.specs.Equations.{Marking}
 use Rattle.semantics.specs.Plain.{settled, standing, marked, share, letter, lines, page}
 use Rattle.semantics.proofs.Sums.{sum_le, sum_const}
 use Rattle.semantics.proofs.Looks.{costs_bound}
 use Rattle.lts.specs.Source.{Answers, Shows}
-use Rattle.board.specs.State.{State, most}
+use Rattle.board.specs.State.{State}
 use Rattle.refinement.specs.Represents.{Shown}
 use Rattle.refinement.proofs.Bounding.{inside_taken, most_le}
 

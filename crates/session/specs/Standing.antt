@@ -1,5 +1,5 @@
 -- What a session stands for, and what a call of it does.
-use Rattle.std.specs.Prelude.{ℕ, List, [], ◌∷◌, ◌++◌}
+use Rattle.std.specs.Prelude.{List, [], ◌∷◌, ◌++◌}
 use Rattle.records.specs.declared.Fixpoint.{Fixpoint}
 use Rattle.semantics.specs.declared.Pair.{Pair}
 use Rattle.semantics.specs.declared.Call.{Call}

@@ -9,15 +9,15 @@ pub returns-then-not-loaded : goal.returns-then-not-loaded
 returns-then-not-loaded g c =
     record { call = λ ready. not_run _ _ (g.met.S.Source.shows _ ready) _ (view c.args.self.now.board) _ (sym c.loaded.ensures ∙ c.if-not-loaded.true); kept = (refl, refl) }
 
-pub overflow-cast-taken : goal.overflow-cast-taken
-overflow-cast-taken g c =
-    let few = taken_few (g.S.Source.answers c.args.self.now.source) g.D.Side.fixpoint c.from.result (view c.args.self.now.board) (view c.run.new.board) _ _ _ c.run.ensures c.taken-taken.ensures c.taken.ensures c.saturating-sub-taken.ensures in
+pub overflow_cast-taken : goal.overflow_cast-taken
+overflow_cast-taken g c =
+    let few = taken_few (g.S.Source.answers c.args.self.now.source) g.D.Side.fixpoint c.from.result (view c.args.self.now.board) (view c.run.new.board) _ _ _ c.run.ensures c.taken-taken.ensures c.taken.ensures c.saturating_sub-taken.ensures in
     omega (arith, few, c.from.ensures)
 
 pub returns : goal.returns
 returns g c =
     record {
       call = λ ready. runs (g.S.Source.answers c.args.self.now.source) _ (g.met.S.Source.shows _ ready) g.D.Side.fixpoint (view c.args.self.now.board) c.args.budget (view c.run.new.board) _ _ c.waiting.result (sym c.loaded.ensures ∙ c.if-not-loaded.false) (c.run.ensures ∙ ap (λ (k : ℕ). ran (g.S.Source.answers c.args.self.now.source) g.D.Side.fixpoint k (view c.args.self.now.board)) c.from.ensures)
-          c.waiting.ensures (c.saturating-sub-taken.ensures ∙ ap₂ (λ (m n : ℕ). m - n) c.taken.ensures c.taken-taken.ensures) (c.saturating-sub-looks.ensures ∙ ap₂ (λ (m n : ℕ). m - n) c.looks.ensures c.looks-looks.ensures);
+          c.waiting.ensures (c.saturating_sub-taken.ensures ∙ ap₂ (λ (m n : ℕ). m - n) c.taken.ensures c.taken-taken.ensures) (c.saturating_sub-looks.ensures ∙ ap₂ (λ (m n : ℕ). m - n) c.looks.ensures c.looks-looks.ensures);
       kept = (refl, refl);
     }
