@@ -21,6 +21,8 @@ MADE = re.compile(
     r"|-(requires|init|preserved|smaller|index|2|3|4)$")
 # Types that were written in lower case, by crate.
 TYPES = {"semantics": {"accepts": "Accepts", "refuses": "Refuses"}, "": {"table-ready": "TableReady"}}
+# A type of which port.py turned the dash alone.
+HALF = {"Goes_on": "GoesOn", "Goes-on": "GoesOn"}
 # A proof in capitals, which is no type.
 PROOFS = {"Names-B": "names_B"}
 DEFINED = re.compile(r"^\s*(?:pub |abbrev |unfoldable |record |data |deriving )*([^\s(){};:=,]+)[^=]*? : ", re.M)
@@ -122,13 +124,14 @@ def turn(text, new, keep, crate, made):
         return new[n]
 
     text = DASHED.sub(one, text)
+    text = re.sub(r"(?<![\w'-])Goes_on(?![\w'-])", HALF["Goes_on"], text)
     for old, to in TYPES.get(crate, {}).items():
         text = re.sub(rf"(?<![\w'.-]){old}(?![\w'-])(?! *[=h;])", to, text)
     return text
 
 
 def ticked(text, new):
-    return re.sub(r"`[^`\n]*`", lambda m: DASHED.sub(lambda n: new.get(n.group(0), n.group(0)), m.group(0)), text)
+    return re.sub(r"`[^`\n]*`", lambda m: DASHED.sub(lambda n: (HALF | new).get(n.group(0), n.group(0)), m.group(0)), text)
 
 
 def antt(path, new, own):

@@ -6,7 +6,7 @@ use Rattle.semantics.specs.declared.Equation.{Equation}
 use Rattle.semantics.specs.declared.Pair.{Pair}
 use Rattle.semantics.specs.Lts.{Lts}
 use Rattle.semantics.specs.Plain.{pair, among, turned, waits, settled, Takes, Plain, no_book, book, PlainCall, load, pin, run, query, sheet, Allowed}
-use Rattle.semantics.specs.Law.{Each, Once, Goes_on, Progress}
+use Rattle.semantics.specs.Law.{Each, Once, GoesOn, Progress}
 use Rattle.semantics.proofs.Everywhere.{every_from}
 use Rattle.semantics.proofs.Quantifiers.{every_not}
 use Rattle.semantics.proofs.Pairs.{is, is_at, is_self, Inside, among_push, among_append, full}
@@ -101,7 +101,7 @@ module _ (F : Lts) (d : Fixpoint) (B : List Equation) (pins : List Pair) where
           let a = r.2 e in
           all_taken (taken ++ ps) (λ s i m n. among_append s i taken ps ∙ or_right (among s i taken) (among s i ps) (full F.states (length B) ps (takes_once taken ps r.0) (takes_inside taken ps r.0) (omega arith) s i m n))
 
-pub goes_on : (F : Lts) (d : Fixpoint) (B : List Equation) (pins taken : List Pair) (looks : ℕ) → Goes_on F d B pins taken looks
+pub goes_on : (F : Lts) (d : Fixpoint) (B : List Equation) (pins taken : List Pair) (looks : ℕ) → GoesOn F d B pins taken looks
 unfolding Allowed
 goes_on F d B pins taken looks = record { chooses = complete_from F d B pins taken; settles = all_settled F d B pins taken }
 

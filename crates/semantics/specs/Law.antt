@@ -134,7 +134,7 @@ Agree =
 -- Progress
 
 -- how a session with a book goes on, whether a history has led to it or not
-pub record Goes_on (F : Lts) (d : Fixpoint) (B : List Equation) (pins taken : List Pair) (looks : ℕ) : Type 0 where
+pub record GoesOn (F : Lts) (d : Fixpoint) (B : List Equation) (pins taken : List Pair) (looks : ℕ) : Type 0 where
   -- whichever waiting pairs a run has taken first, within its number, it can be completed
   pub chooses : (k : ℕ) (ps : List Pair) → Takes F d B pins taken ps → length ps ≤ k →
       (more : List Pair) × Allowed F d (book B pins taken looks) (run k) (ps ++ more)
@@ -145,7 +145,7 @@ pub record Goes_on (F : Lts) (d : Fixpoint) (B : List Equation) (pins taken : Li
 -- every call of every session has a choice of pairs that is allowed, and sessions with a book go on
 pub record Progress : Type 0 where
   pub allowed : (F : Lts) (d : Fixpoint) (p : Plain) (c : PlainCall) → (ps : List Pair) × Allowed F d p c ps
-  pub goes_on : (F : Lts) (d : Fixpoint) (B : List Equation) (pins taken : List Pair) (looks : ℕ) → Goes_on F d B pins taken looks
+  pub goes_on : (F : Lts) (d : Fixpoint) (B : List Equation) (pins taken : List Pair) (looks : ℕ) → GoesOn F d B pins taken looks
 
 -- The whole
 
@@ -196,7 +196,7 @@ pub record BookLaw (F : Lts) (d : Fixpoint) (es : List Event) (B : List Equation
       settled F d B pins taken ≡ true → settled F d B pins' taken' ≡ true →
       SamePins F B pins pins' →
       Alike F d B pins taken looks pins' taken' looks' × (reported es ≡ reported es')
-  pub goes_on : Goes_on F d B pins taken looks
+  pub goes_on : GoesOn F d B pins taken looks
 
 -- the law over runs: the history es of calls, choices and answers leads from a new session to q, and all that follows from that
 pub record LawOfRuns (F : Lts) (d : Fixpoint) (es : List Event) (q : Plain) : Type 0 where
