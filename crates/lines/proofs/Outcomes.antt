@@ -1,14 +1,14 @@
 -- A text is accepted exactly where it says a head and records.
-use Rattle.std.proofs.Common.{◌≡◌, ℕ, zero, suc, ◌+◌, ◌-◌, ◌<◌, ◌≤◌, Bool, true, false, cond, ◌&&◌, ltb, leb, ◌⊎◌, List, [], ◌∷◌, ◌++◌, length, take, Some, None, Ok, Err, Option, Result, sym, refl, ap, ◌∙◌, subst, inl, inr, append_assoc, append-nil, add-zero, arith}
+use Rattle.std.proofs.Common.{◌≡◌, ℕ, suc, ◌+◌, ◌-◌, ◌≤◌, true, ◌&&◌, ltb, leb, List, [], ◌∷◌, ◌++◌, length, take, Some, None, Ok, Err, Option, Result, sym, refl, ap, ◌∙◌, subst, inl, inr, append_assoc, append-nil, add-zero, arith}
 use Rattle.std.proofs.lemmas.Bool.{and_parts, and_from, leb-true, ltb-true, le-leb, lt-ltb, cases_Bool}
-use Rattle.fields.specs.Pieces.{pieces, ended, Clear}
+use Rattle.fields.specs.Pieces.{pieces}
 use Rattle.fields.specs.Faults.{fault}
 use Rattle.fields.specs.declared.fault.Cause.{Cause}
 use Rattle.fields.specs.declared.fault.Cause.TheVariants.{Size, Form}
 use Rattle.fields.specs.declared.fault.Fault.{Fault}
 use Rattle.fields.proofs.Joining.{pieces_ended, ended_pieces}
-use Rattle.lines.specs.Kinds.{Kind, Says, says, told_apart}
-use Rattle.lines.specs.Texts.{Grammar, Sized, Lines, EachSays, Placed, Reads, Earlier, Outcome, accepted, refused, refused_at, at_end, last, by_result, by_option, body, whole, outcome, Exact}
+use Rattle.lines.specs.Kinds.{Says, says, told_apart}
+use Rattle.lines.specs.Texts.{Grammar, Sized, EachSays, Placed, Reads, Earlier, Outcome, accepted, refused, refused_at, at_end, last, by_result, by_option, body, whole, outcome, Exact}
 use Rattle.lines.proofs.Saying.{says_found, says_spelt}
 
 not_nil : {X : Type 0} (xs : List X) (x : X) (ys : List X) → xs ++ x ∷ ys ≡ [] → ⊥

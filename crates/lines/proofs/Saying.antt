@@ -1,8 +1,8 @@
 -- What a line says is what is found in its fields without a fault.
-use Rattle.std.proofs.Common.{◌≡◌, ℕ, suc, ◌<◌, ◌≤◌, Bool, true, false, cond, not, ◌&&◌, ◌||◌, eqb, ltb, leb, ◌⊎◌, List, [], ◌∷◌, length, Some, None, Ok, Err, Option, Result, sym, refl, ap, ◌∙◌, subst, inl, inr, arith}
+use Rattle.std.proofs.Common.{◌≡◌, ℕ, suc, ◌<◌, ◌≤◌, Bool, true, false, cond, not, ◌&&◌, eqb, ltb, leb, List, [], ◌∷◌, Some, None, Ok, Err, Option, Result, sym, refl, ap, ◌∙◌, subst, inl, inr, arith}
 use Rattle.std.proofs.lemmas.Bool.{and_parts, and_from, or_cases, not-true, eqb-true, eqb-false, eq-eqb, leb-true, ltb-true, le-leb, lt-ltb, cases_Bool, both_ways}
-use Rattle.fields.specs.Pieces.{pieces, joined, Clear}
-use Rattle.fields.specs.Numbers.{number?, value, Spells}
+use Rattle.fields.specs.Pieces.{pieces}
+use Rattle.fields.specs.Numbers.{number?, value}
 use Rattle.fields.specs.declared.fault.Cause.{Cause}
 use Rattle.fields.specs.declared.fault.Cause.TheVariants.{Form, Malformed, Range}
 use Rattle.fields.proofs.Joining.{pieced}

@@ -1,8 +1,8 @@
 -- Fields that are, or are not, of a form.
-use Rattle.std.proofs.Common.{◌≡◌, ℕ, ◌<◌, ◌≤◌, Bool, true, false, ◌&&◌, ◌||◌, eqb, ◌⊎◌, List, [], ◌∷◌, length, get_or, Err, sym, refl, ap, ◌∙◌, subst, inl, inr, arith}
+use Rattle.std.proofs.Common.{◌≡◌, ℕ, ◌<◌, Bool, true, false, ◌&&◌, ◌||◌, eqb, List, [], ◌∷◌, length, get_or, Err, refl, ap, ◌∙◌, inl, inr, arith}
 use Rattle.std.proofs.lemmas.Bool.{and_parts, or_cases, or_parts, eqb-true, ne_eqb, both_ways}
 use Rattle.fields.specs.declared.fault.Cause.TheVariants.{Form}
-use Rattle.lines.specs.Kinds.{Slot, byte, number, Kind, is_byte, fits, says}
+use Rattle.lines.specs.Kinds.{Slot, byte, number, Kind, fits, says}
 use Rattle.lines.specs.Forms.{any, forms, fits_one}
 
 pub single : (xs : List ℕ) (b : ℕ) → length xs ≡ 1 → get_or xs 0 0 ≡ b → xs ≡ b ∷ []

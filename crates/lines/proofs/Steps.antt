@@ -1,5 +1,5 @@
 -- What each line does to the outcome of a text.
-use Rattle.std.proofs.Common.{◌≡◌, ℕ, ◌+◌, ◌<◌, ◌≤◌, Bool, true, false, cond, ◌&&◌, ltb, leb, List, [], ◌∷◌, ◌++◌, length, Some, None, Ok, Err, sym, refl, ap, ◌∙◌, subst, inl, inr, arith}
+use Rattle.std.proofs.Common.{◌≡◌, ℕ, ◌+◌, ◌<◌, ◌&&◌, ltb, leb, List, [], ◌∷◌, ◌++◌, length, Some, None, Ok, Err, sym, refl, ap, ◌∙◌, inl, inr, arith}
 use Rattle.std.proofs.lemmas.Bool.{and_parts, ltb-true, leb-true, cases_Bool}
 use Rattle.fields.specs.Pieces.{pieces}
 use Rattle.fields.specs.Faults.{fault}
@@ -7,7 +7,7 @@ use Rattle.fields.specs.declared.fault.Cause.TheVariants.{Size, Form}
 use Rattle.fields.specs.declared.fault.Fault.{Fault}
 use Rattle.fields.proofs.Cutting.{pieces_some}
 use Rattle.lines.specs.Kinds.{says}
-use Rattle.lines.specs.Texts.{Grammar, Sized, Outcome, refused, refused_at, at_end, last, by_result, by_option, body, whole, outcome}
+use Rattle.lines.specs.Texts.{Grammar, Sized, refused, refused_at, at_end, by_result, by_option, body, whole, outcome}
 use Rattle.lines.proofs.Outcomes.{body_line, whole_line, outcome_sized, outcome_headed}
 
 module _ {H R : Type 0} (g : Grammar H R) where

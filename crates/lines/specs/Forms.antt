@@ -1,5 +1,5 @@
 -- The forms of lines: a letter, and then numbers, but for the side of a rulebook and the form of an equation.
-use Rattle.std.specs.Prelude.{◌≡◌, ℕ, Bool, true, false, cond, ◌||◌, List, [], ◌∷◌, ◌==◌}
+use Rattle.std.specs.Prelude.{◌≡◌, ℕ, Bool, true, false, ◌||◌, List, [], ◌∷◌, ◌==◌}
 use Rattle.records.specs.declared.Fixpoint.{Fixpoint}
 use Rattle.records.specs.declared.Fixpoint.TheVariants.{Greatest, Least}
 use Rattle.lines.specs.Kinds.{Slot, byte, number, fits}

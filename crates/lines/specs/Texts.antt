@@ -1,11 +1,11 @@
 -- Texts of a first line and more lines: what a text says, and its first fault.
-use Rattle.std.specs.Prelude.{◌≡◌, ℕ, ◌+◌, ◌-◌, ◌<◌, ◌≤◌, Bool, true, cond, ◌&&◌, ◌↔◌, List, [], ◌∷◌, ◌++◌, length, take, Some, None, Ok, Err, Option, Result, nat_le, nat_lt}
+use Rattle.std.specs.Prelude.{◌≡◌, ℕ, ◌+◌, ◌-◌, ◌<◌, ◌≤◌, cond, ◌&&◌, ◌↔◌, List, [], ◌∷◌, ◌++◌, length, take, Some, None, Ok, Err, Option, Result, nat_le, nat_lt}
 use Rattle.fields.specs.Pieces.{pieces, ended, Clear}
 use Rattle.fields.specs.Faults.{fault}
 use Rattle.fields.specs.declared.fault.Cause.{Cause}
 use Rattle.fields.specs.declared.fault.Cause.TheVariants.{Size, Form}
 use Rattle.fields.specs.declared.fault.Fault.{Fault}
-use Rattle.lines.specs.Kinds.{Kind, Says, says, told_apart}
+use Rattle.lines.specs.Kinds.{Kind, Says, says}
 
 -- The lines that a text may have. Its first line says a head, each other one a record.
 pub record Grammar (H R : Type 0) : Type 0 where

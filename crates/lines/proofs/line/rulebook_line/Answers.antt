@@ -5,11 +5,11 @@ use Rattle.lines.specs.Forms.{forms, fits_one}
 use Rattle.lines.proofs.Shapes.{no_side}
 use Rattle.lines.proofs.line.rulebook_line.Goals as goal
 
-pub returns-in-err-side-2 : goal.returns-in-err-side-2
-returns-in-err-side-2 c =
-    let n = c.in-ok-side.count.now in
-    let none = c.in-err-side-2.ensures in
-    let fields : pieces 44 c.args.bytes.now ≡ (c.in-ok-only-char.field-0 ∷ []) ∷ n ∷ [] =
-    c.in-ok-side.ensures ∙ ap (λ (f : List ℕ). f ∷ n ∷ []) c.in-ok-only-char.ensures in
-    rw c.from-residual-in-err-side-2.ensures
+pub returns-in_err-side-2 : goal.returns-in_err-side-2
+returns-in_err-side-2 c =
+    let n = c.in_ok-side.count.now in
+    let none = c.in_err-side-2.ensures in
+    let fields : pieces 44 c.args.bytes.now ≡ (c.in_ok-only_char.field-0 ∷ []) ∷ n ∷ [] =
+    c.in_ok-side.ensures ∙ ap (λ (f : List ℕ). f ∷ n ∷ []) c.in_ok-only_char.ensures in
+    rw c.from_residual-in_err-side-2.ensures
     (ap (λ (fs : List (List ℕ)). fits_one forms ((82 ∷ []) ∷ fs)) fields ∙ no_side _ n (none Greatest) (none Least))
