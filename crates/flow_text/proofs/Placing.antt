@@ -1,11 +1,8 @@
 -- A record that is put behind those of its kind, or has no place there.
-use Rattle.std.proofs.Common.{◌≡◌, ℕ, zero, suc, ◌+◌, ◌<◌, ◌≤◌, min, Bool, true, false, cond, ◌||◌, ltb, ◌⊎◌, List, [], ◌∷◌, ◌++◌, length, get_or, take, set, Some, None, Option, sym, refl, ap, ◌∙◌, subst, inl, inr, append-nil, arith}
+use Rattle.std.proofs.Common.{◌≡◌, ℕ, zero, suc, ◌+◌, ◌<◌, min, Bool, true, false, List, [], ◌∷◌, ◌++◌, length, get_or, take, set, Some, None, sym, refl, ap, ◌∙◌, subst, inl, inr, append-nil, arith}
 use Rattle.std.specs.List.{ContainsAt as Has}
 use Rattle.std.proofs.lemmas.List.{length_push}
 use Rattle.std.proofs.lemmas.Bool.{or_cases, or_left, or_right, cases_Bool, lt-ltb, le-ltb, both_ways}
-use Rattle.fields.specs.Faults.{fault}
-use Rattle.fields.specs.declared.fault.Cause.{Cause}
-use Rattle.fields.specs.declared.fault.Cause.TheVariants.{Repeated, Full}
 use Rattle.fields.specs.declared.fault.Fault.{Fault}
 use Rattle.flow_text.specs.Lists.{Unplaced}
 use Rattle.lines.specs.Lent.{Filled}

@@ -1,16 +1,15 @@
 -- What the lines so far have come to.
-use Rattle.std.proofs.Common.{◌≡◌, ℕ, ◌+◌, ◌<◌, ◌≤◌, List, [], ◌∷◌, ◌++◌, length, Some, None, Ok, Err, sym, refl, ap, ◌∙◌, subst}
-use Rattle.records.specs.declared.Counts.{Counts}
+use Rattle.std.proofs.Common.{◌≡◌, ℕ, ◌+◌, ◌<◌, List, [], ◌∷◌, ◌++◌, length, Some, None, Ok, Err, sym, refl, ap, ◌∙◌, subst}
 use Rattle.fields.specs.Faults.{fault}
 use Rattle.fields.specs.Pieces.{pieces}
 use Rattle.fields.specs.declared.fault.Cause.TheVariants.{Size, Form}
 use Rattle.fields.specs.declared.fault.Fault.{Fault}
 use Rattle.lines.specs.Kinds.{says}
-use Rattle.lines.specs.Texts.{Grammar, Sized, outcome, body, refused, accepted, Exact}
+use Rattle.lines.specs.Texts.{Sized, outcome, body, refused, Exact}
 use Rattle.lines.proofs.Filling.{untouched}
 use Rattle.lines.proofs.Steps as step
 use Rattle.lines.proofs.Outcomes.{exact}
-use Rattle.flow_text.specs.Flows.{flow_kind, record_kinds, flow_grammar, Room, Lent, misplaced, room_in, Row, Holds, Kept}
+use Rattle.flow_text.specs.Flows.{flow_kind, record_kinds, flow_grammar, Room, Lent, misplaced, room_in, Holds, Kept}
 use Rattle.flow_text.specs.Reading.{Accepts, Refuses}
 use Rattle.flow_text.specs.Filling.{Sofar}
 use Rattle.flow_text.specs.declared.record.Record.{Record}

@@ -1,5 +1,5 @@
 -- Flow texts: a line F with the counts, and then lines T, U and P within them.
-use Rattle.std.specs.Prelude.{◌≡◌, ℕ, min, Bool, true, false, cond, ◌&&◌, ◌||◌, List, [], ◌∷◌, ◌++◌, length, Some, None, Option, Result, MatchResult, ◌==◌, nat_lt, slice_index}
+use Rattle.std.specs.Prelude.{◌≡◌, ℕ, min, Bool, false, cond, ◌&&◌, ◌||◌, List, [], ◌∷◌, ◌++◌, length, Some, None, Option, Result, MatchResult, ◌==◌, nat_lt, slice_index}
 use Rattle.records.specs.declared.Counts.{Counts}
 use Rattle.records.specs.declared.Transition as transition
 use Rattle.records.specs.declared.Divergence as divergence
@@ -7,7 +7,7 @@ use Rattle.records.specs.declared.Label as label
 use Rattle.fields.specs.declared.fault.Cause.{Cause}
 use Rattle.fields.specs.declared.fault.Cause.TheVariants.{Repeated, Full}
 use Rattle.fields.specs.declared.fault.Fault.{Fault}
-use Rattle.lines.specs.Kinds.{Slot, byte, number, Kind}
+use Rattle.lines.specs.Kinds.{byte, number, Kind}
 use Rattle.lines.specs.Lent.{Filled}
 use Rattle.lines.specs.Texts.{Grammar}
 use Rattle.flow_text.specs.declared.record.Record.{Record}

@@ -1,4 +1,5 @@
 //! Flow texts.
+#![tactic(auto)]
 
 pub mod counts;
 pub mod flow;
