@@ -1,5 +1,5 @@
 -- What the lines so far have come to.
-use Rattle.std.proofs.Common.{◌≡◌, ℕ, suc, ◌+◌, ◌<◌, ◌≤◌, Bool, true, false, cond, eqb, ltb, List, [], ◌∷◌, ◌++◌, length, set, Some, None, Ok, Err, Option, sym, refl, ap, ◌∙◌, subst, inl, inr, arith}
+use Rattle.std.proofs.Common.{◌≡◌, ℕ, suc, ◌+◌, ◌<◌, ◌≤◌, Bool, true, false, cond, ltb, List, [], ◌∷◌, ◌++◌, length, set, Some, None, Ok, Err, Option, sym, refl, ap, ◌∙◌, subst, inl, inr, arith}
 use Rattle.std.proofs.lemmas.List.{length_push}
 use Rattle.std.proofs.lemmas.Bool.{lt-ltb, le-ltb, eq-eqb, ltb-true, cases_lt, cond-true}
 use Rattle.records.specs.declared.EquationRecord.{EquationRecord}
@@ -10,7 +10,7 @@ use Rattle.fields.specs.declared.fault.Cause.TheVariants.{Size, Form, Full, Turn
 use Rattle.fields.specs.declared.fault.Fault.{Fault}
 use Rattle.lines.specs.Kinds.{says}
 use Rattle.lines.specs.Lent.{Filled}
-use Rattle.lines.specs.Texts.{Sized, Placed, Reads, outcome, body, refused, accepted, at_end, Exact}
+use Rattle.lines.specs.Texts.{Sized, Placed, Reads, outcome, body, refused, at_end, Exact}
 use Rattle.lines.proofs.Filling.{untouched, filled_long, filled_more}
 use Rattle.lines.proofs.Steps as step
 use Rattle.lines.proofs.Outcomes.{exact}

@@ -1,5 +1,5 @@
 -- One equation more in the list.
-use Rattle.std.specs.Prelude.{◌≡◌, ℕ, ◌≤◌, List, [], ◌∷◌, ◌++◌, length, set, Some, None, Result, MatchResult}
+use Rattle.std.specs.Prelude.{◌≡◌, ℕ, List, [], ◌∷◌, ◌++◌, length, Some, None, Result, MatchResult}
 use Rattle.records.specs.declared.EquationRecord.{EquationRecord}
 use Rattle.fields.specs.declared.fault.Fault.{Fault}
 use Rattle.lines.specs.Lent.{Filled}

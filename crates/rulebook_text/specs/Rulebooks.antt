@@ -1,5 +1,5 @@
 -- Rulebook texts: a line R with the side and the number of equations, and then that many lines Q, in turn.
-use Rattle.std.specs.Prelude.{ℕ, Bool, cond, ◌||◌, List, [], ◌∷◌, length, Some, None, Option, Result, ◌==◌, nat_lt, slice_index}
+use Rattle.std.specs.Prelude.{ℕ, cond, ◌||◌, List, [], ◌∷◌, length, Some, None, Option, Result, ◌==◌, nat_lt, slice_index}
 use Rattle.records.specs.declared.EquationRecord.{EquationRecord}
 use Rattle.records.specs.declared.Fixpoint.{Fixpoint}
 use Rattle.records.specs.declared.Fixpoint.TheVariants.{Greatest, Least}

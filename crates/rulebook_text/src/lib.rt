@@ -1,4 +1,5 @@
 //! Rulebook texts.
+#![tactic(auto)]
 
 pub mod equation;
 pub mod rulebook;
