@@ -1,5 +1,5 @@
 -- What a result says once it is held in a part.
-use Rattle.std.proofs.Common.{◌≡◌, ℕ, Ok, Err, Result, sym, subst, arith, MatchResult}
+use Rattle.std.proofs.Common.{◌≡◌, ℕ, Ok, Err, Result, subst, arith, MatchResult}
 use Rattle.fields.specs.declared.fault.Fault.{Fault}
 use Rattle.job.specs.Parts.{job_fault, in_part}
 use Rattle.job.specs.declared.fault.Part.{Part}

@@ -1,4 +1,5 @@
 //! Jobs: a flow text and a rulebook text in one.
+#![tactic(auto)]
 
 pub mod fault;
 pub mod job;
