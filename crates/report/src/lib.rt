@@ -1,4 +1,5 @@
 //! What the program prints for a job.
+#![tactic(auto)]
 
 pub mod answer;
 pub mod lines;

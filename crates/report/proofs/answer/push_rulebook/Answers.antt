@@ -9,6 +9,6 @@ returns c =
     let es = equation_lines 0 c.args.equations.now in
     let before = string_bytes c.args.out.now in
     let line = rulebook_line c.args.book in
-    let pushed : string_bytes c.push-str.new.self ≡ before ++ line =
-    c.in-ok-push-str.ensures.bytes ∙ ap (λ (b : List ℕ). before ++ b) (c.as-str.ensures.value ∙ c.in-ok-line.ensures) in
-    IfOk-weaker c.push-equations.result _ _ (λ u e. in_turn before (string_bytes c.push-str.new.self) line es _ pushed e) c.push-equations.ensures
+    let pushed : string_bytes c.push_str.new.self ≡ before ++ line =
+    c.in_ok-push_str.ensures.bytes ∙ ap (λ (b : List ℕ). before ++ b) (c.as_str.ensures.value ∙ c.in_ok-line.ensures) in
+    IfOk-weaker c.push_equations.result _ _ (λ u e. in_turn before (string_bytes c.push_str.new.self) line es _ pushed e) c.push_equations.ensures

@@ -1,4 +1,4 @@
-use Rattle.std.proofs.Common.{◌≡◌, ℕ, ◌+◌, List, ◌++◌, drop, refl, ap, ◌∙◌, arith}
+use Rattle.std.proofs.Common.{ℕ, ◌+◌, List, ◌++◌, drop, refl, ap, ◌∙◌, arith}
 use Rattle.report.specs.Lines.{equation_lines}
 use Rattle.report.proofs.Pushing.{equations_more, equations_all}
 use Rattle.report.proofs.lines.push_equations.Goals as goal
@@ -7,8 +7,8 @@ pub loop-i-preserved : goal.loop-i-preserved
 loop-i-preserved c =
     let i = c.loop-i.i in
     let rest = equation_lines (i + 1) (drop (i + 1) c.args.items.now) in
-    ap (λ (b : List ℕ). b ++ rest) c.in-ok-push-str.ensures.bytes
-    ∙ equations_more c.args.items.now i _ _ c.loop-i.invariant _ (record { form = 0; first = 0; second = 0 }) (omega arith) refl c.as-str.result.now (c.as-str.ensures.value ∙ c.in-ok-equation-line.ensures)
+    ap (λ (b : List ℕ). b ++ rest) c.in_ok-push_str.ensures.bytes
+    ∙ equations_more c.args.items.now i _ _ c.loop-i.invariant _ (record { form = 0; first = 0; second = 0 }) (omega arith) refl c.as_str.result.now (c.as_str.ensures.value ∙ c.in_ok-equation_line.ensures)
 
 pub returns : goal.returns
 returns c = equations_all _ c.loop-i.i _ _ c.loop-i.invariant (omega arith)
