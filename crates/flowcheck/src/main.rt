@@ -1,4 +1,6 @@
 //! Reads a job from standard input and prints what it says, or why it is refused.
+#![tactic(auto)]
+
 use report::answer::answer;
 use std::alloc::Global;
 use std::io;
