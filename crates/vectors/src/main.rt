@@ -1,4 +1,6 @@
 //! Reads a file of cases from standard input and prints the answer to each; tests/README.md says how the file is laid out.
+#![tactic(auto)]
+
 use records::{Divergence, EquationRecord, Label, Transition};
 use report::answer::answer_with;
 use report::lines::{push_equations, push_lines};
