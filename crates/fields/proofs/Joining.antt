@@ -1,6 +1,6 @@
 -- The pieces of bytes are the one list of pieces that joins to them.
 use Rattle.std.proofs.Common.{◌≡◌, ℕ, List, [], ◌∷◌, ◌++◌, sym, refl, ap, ◌∙◌, subst, inl, inr}
-use Rattle.std.specs.List.{AllByRecursion as All}
+use Rattle.std.specs.List.{AllByRecursion}
 use Rattle.std.proofs.lemmas.Bool.{eq-eqb, ne_eqb, cases_eq}
 use Rattle.fields.specs.Pieces.{pieces, onto, joined, ended, Clear, Pieced}
 use Rattle.fields.proofs.Cutting.{pieces_some}
@@ -35,12 +35,12 @@ clear m [] = (tt, tt)
 clear m (b ∷ bs) =
     elim (cases_eq b m) [ inl e ↦ rw (eq-eqb b m e) (tt, clear m bs) | inr h ↦ rw (ne_eqb b m h) (clear_onto m b (pieces m bs) h (clear m bs)) ]
 
-alone : (m : ℕ) (p : List ℕ) → All (λ b. b ≡ m → ⊥) p → pieces m p ≡ p ∷ []
+alone : (m : ℕ) (p : List ℕ) → AllByRecursion (λ b. b ≡ m → ⊥) p → pieces m p ≡ p ∷ []
 unfolding pieces
 alone m [] h = refl
 alone m (b ∷ p) h = rw (ne_eqb b m h.0, alone m p h.1)
 
-front : (m : ℕ) (p bs : List ℕ) → All (λ b. b ≡ m → ⊥) p → pieces m (p ++ m ∷ bs) ≡ p ∷ pieces m bs
+front : (m : ℕ) (p bs : List ℕ) → AllByRecursion (λ b. b ≡ m → ⊥) p → pieces m (p ++ m ∷ bs) ≡ p ∷ pieces m bs
 unfolding pieces
 front m [] bs h = rw (eq-eqb m m refl)
 front m (b ∷ p) bs h = rw (ne_eqb b m h.0, front m p bs h.1)

@@ -1,6 +1,6 @@
 -- Bytes that are cut at each place where a mark stands: fields at a comma, lines at byte 10.
 use Rattle.std.specs.Prelude.{◌≡◌, ℕ, cond, List, [], ◌∷◌, ◌++◌, ◌==◌, ◌≢◌}
-use Rattle.std.specs.List.{AllByRecursion as All}
+use Rattle.std.specs.List.{AllByRecursion}
 
 -- b in front of the first piece
 abbrev pub onto : ℕ → List (List ℕ) → List (List ℕ)
@@ -25,7 +25,7 @@ ended m (p ∷ ps) = p ++ m ∷ ended m ps
 
 -- the mark stands in no piece
 abbrev pub Clear : ℕ → List (List ℕ) → Type 0
-Clear m ps = All (λ p. All (λ b. b ≢ m) p) ps
+Clear m ps = AllByRecursion (λ p. AllByRecursion (λ b. b ≢ m) p) ps
 
 -- The pieces of bytes do not hold the mark and, joined by it, they are the bytes; and no others are so.
 pub record Pieced (m : ℕ) : Type 0 where

@@ -3,7 +3,7 @@ ghost use Rattle.flow_text.specs.Flows.{room};
 ghost use Rattle.report.specs.Answers.{Answers, AnswersWithin};
 ghost use Rattle.report.specs.Lines.{counts_line, transition_line, divergence_line, label_line, rulebook_line, all_lines, equation_lines};
 
-use crate::lines::{Printed, push_equations, push_lines};
+use crate::printing::{Printed, push_equations, push_lines};
 use flow_text::counts::Flow;
 use job::job::read_job;
 use records::{Counts, Divergence, EquationRecord, Label, Transition};

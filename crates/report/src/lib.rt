@@ -2,4 +2,4 @@
 #![tactic(auto)]
 
 pub mod answer;
-pub mod lines;
+pub mod printing;

@@ -3,7 +3,7 @@
 
 use records::{Divergence, EquationRecord, Label, Transition};
 use report::answer::answer_with;
-use report::lines::{push_equations, push_lines};
+use report::printing::{push_equations, push_lines};
 use std::alloc::{AllocError, Global};
 use std::io;
 use std::io::Read;

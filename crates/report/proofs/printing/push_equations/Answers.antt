@@ -1,7 +1,7 @@
 use Rattle.std.proofs.Common.{ℕ, ◌+◌, List, ◌++◌, drop, refl, ap, ◌∙◌, arith}
 use Rattle.report.specs.Lines.{equation_lines}
 use Rattle.report.proofs.Pushing.{equations_more, equations_all}
-use Rattle.report.proofs.lines.push_equations.Goals as goal
+use Rattle.report.proofs.printing.push_equations.Goals as goal
 
 pub loop-i-preserved : goal.loop-i-preserved
 loop-i-preserved c =

@@ -1,7 +1,7 @@
 use Rattle.std.proofs.Common.{ℕ, ◌+◌, List, ◌++◌, drop, ap, ◌∙◌, arith}
 use Rattle.report.specs.Lines.{all_lines}
 use Rattle.report.proofs.Pushing.{lines_more, lines_all}
-use Rattle.report.proofs.lines.push_lines.Goals as goal
+use Rattle.report.proofs.printing.push_lines.Goals as goal
 
 pub loop-item-preserved : goal.loop-item-preserved
 loop-item-preserved g c =

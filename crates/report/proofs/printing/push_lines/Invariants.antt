@@ -1,6 +1,6 @@
 use Rattle.std.proofs.Common.{◌≡◌, ◌++◌, drop, string_bytes}
 use Rattle.report.specs.Lines.{all_lines}
-use Rattle.report.proofs.lines.push_lines.Given as goal
+use Rattle.report.proofs.printing.push_lines.Given as goal
 
 abbrev pub invariant-loop-item : goal.invariant-loop-item
 invariant-loop-item g l =
