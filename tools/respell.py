@@ -119,7 +119,7 @@ def turn(text, new, keep, crate, made):
         if n in keep or n not in new:
             return n
         before = text[: m.start()]
-        if made and (MADE.search(n) or re.search(r"(?<![\w'-])(c|w|goal|l)\.$", before)) and not re.search(r"\w\)?\.$", before.removesuffix("c.").removesuffix("w.").removesuffix("l.")):
+        if made and (MADE.search(n) or re.search(r"(?<![\w'-])(c|w|l|goal)\.$", before)):
             return n
         return new[n]
 
