@@ -27,6 +27,7 @@ HALF = {"Goes_on": "GoesOn", "Goes-on": "GoesOn"}
 PROOFS = {"Names-B": "names_B"}
 DEFINED = re.compile(r"^\s*(?:pub |abbrev |unfoldable |record |data |deriving )*([^\s(){};:=,]+)[^=]*? : ", re.M)
 BOUND = re.compile(r"[({]((?:[^\s(){}:,;]+ )+): ")
+STRING = re.compile(r'("(?:[^"\\]|\\.)*")')
 LAMBDA = re.compile(r"λ ((?:[^\s(){}:,;.]+ ?)+)\.")
 # What port.py leaves of an edit's text: the older spelling of a place that the edit names.
 PLACES = [(re.compile(r"format!\((heap|out|alloc), "), r"format!(in \1; "), (re.compile(r"(\w) \.(?=[a-z])"), r"\1."), (re.compile("′"), "'"), (re.compile(r"\((\w\.[\w-]+)\)"), r"\1")]
@@ -134,39 +135,29 @@ def ticked(text, new):
     return re.sub(r"`[^`\n]*`", lambda m: DASHED.sub(lambda n: (HALF | new).get(n.group(0), n.group(0)), m.group(0)), text)
 
 
-def antt(path, new, own):
+def turn_lines(path, comment, use, new, own, turned):
+    """Turns a file line by line: `turned` turns code, and in comments what stands between backticks is turned. Imports from elsewhere and strings stay."""
     old = read(path)
-    keep = imported(old, own)
-    crate = path.split("/")[1]
+    elsewhere = re.compile(use + r" (?!Rattle\.(" + "|".join(own) + r")\.)")
     out = []
     for line in old.split("\n"):
-        code, dashes, comment = line.partition("--")
-        parts = re.split(r'("[^"]*")', code)
-        if line.startswith("use ") and re.match(r"use (?!Rattle\.(" + "|".join(own) + r")\.)", line):
+        code, mark, rest = line.partition(comment)
+        if elsewhere.match(line) or code.count('"') % 2:
             out.append(line)
             continue
-        code = "".join(p if p.startswith('"') else turn(p, new, keep, crate, of_a_function(path)) for p in parts)
-        out.append(code + dashes + ticked(comment, new))
+        code = "".join(part if part.startswith('"') else turned(part) for part in STRING.split(code))
+        out.append(code + mark + ticked(rest, new))
     write(path, "\n".join(out), old)
+
+
+def antt(path, new, own):
+    keep, crate, made = imported(read(path), own), path.split("/")[1], of_a_function(path)
+    turn_lines(path, "--", "use", new, own, lambda code: turn(code, new, keep, crate, made))
 
 
 def source(path, new, own):
-    old = read(path)
-    keep = imported(old, own)
-    crate = path.split("/")[1]
-    out = []
-    for line in old.split("\n"):
-        code, slashes, comment = line.partition("//")
-        if line.startswith("ghost use ") and re.match(r"ghost use (?!Rattle\.(" + "|".join(own) + r")\.)", line):
-            out.append(line)
-            continue
-        parts = re.split(r'("(?:[^"\\]|\\.)*")', code)
-        if code.count('"') % 2:
-            out.append(line)
-            continue
-        code = "".join(p if p.startswith('"') else DASHED.sub(lambda m: m.group(0) if m.group(0) in keep else new.get(m.group(0), m.group(0)), p) for p in parts)
-        out.append(code + slashes + ticked(comment, new))
-    write(path, "\n".join(out), old)
+    keep = imported(read(path), own)
+    turn_lines(path, "//", "ghost use", new, own, lambda code: DASHED.sub(lambda m: m.group(0) if m.group(0) in keep else new.get(m.group(0), m.group(0)), code))
 
 
 def edit(path, new):

@@ -116,3 +116,57 @@ pub fn replay_new<S: Source, D: Side>(
         }
     }
 }
+
+#[cfg(test)]
+mod tests {
+    use super::*;
+    use engine::side::Greatest;
+    use lts::queue::Queue;
+    use records::EquationRecord;
+    use semantics::{Mark, Refusal};
+
+    // Variable 1 is false and 0 is it or it: at each of two states, both pairs are taken, with 3 looks and with 1.
+    #[test]
+    fn replays_a_job(rt: HostRuntime) {
+        let book = [
+            EquationRecord {
+                form: '|',
+                first: 1,
+                second: 1,
+            },
+            EquationRecord {
+                form: 'f',
+                first: 0,
+                second: 0,
+            },
+        ];
+        let calls = [
+            Call::Sheet(28),
+            Call::Load(&book),
+            Call::Run(1),
+            Call::Run(9),
+            Call::Query(1, 0),
+            Call::Pin(1, 0),
+            Call::Query(2, 0),
+            Call::Sheet(27),
+            Call::Sheet(28),
+        ];
+        let queue = Queue::new(1, 2, 0, 1).ok().expect(&rt, "a queue");
+        let (_, answers) = replay_new(rt.alloc(), queue, Greatest, &calls)
+            .ok()
+            .expect(&rt, "memory");
+        let sheet = Vec::from_slice(rt.alloc(), b"M,G,2,2,1,8\nV,0,0,0\nV,1,0,0\n").expect(
+            &rt, "memory",
+        );
+        assert_eq!(rt; answers.len(), 9);
+        assert_eq!(rt; answers[0], Answer::Refused(Refusal::NoBook));
+        assert_eq!(rt; answers[1], Answer::Loaded);
+        assert_eq!(rt; answers[2], Answer::Ran(false, 1, 3));
+        assert_eq!(rt; answers[3], Answer::Ran(true, 3, 5));
+        assert_eq!(rt; answers[4], Answer::Told(Mark::Lost, false));
+        assert_eq!(rt; answers[5], Answer::Pinned(false));
+        assert_eq!(rt; answers[6], Answer::Refused(Refusal::NoPair));
+        assert_eq!(rt; answers[7], Answer::Refused(Refusal::ShortBuffer));
+        assert_eq!(rt; answers[8], Answer::Written(sheet));
+    }
+}
