@@ -8,18 +8,20 @@
 
 use crate::report::report;
 use crate::script::Script;
+use crate::unmade::Unmade;
 use fenced::Fenced;
 use joined::Joined;
 use lts::Source;
-use lts::queue::{Queue, QueueRefusal};
+use lts::queue::Queue;
 use lts::sets::SmallSet;
 use records::{Counts, Divergence, Label, Transition};
 use std::alloc::{AllocError, Global};
 use std::io;
-use table::{Table, TableRefusal};
+use table::Table;
 
 mod report;
 mod script;
+mod unmade;
 
 /// What a case describes: the table and the queue are made anew for each source that holds them.
 #[derive(Drop)]
@@ -38,113 +40,68 @@ struct Case {
 
 impl Case {
     fn read(heap: Global, script: &mut Script) -> Result<Case, AllocError> {
-        let counts = script.counts();
-        let transitions = script.transitions(heap)?;
-        let divergences = script.divergences(heap)?;
-        let labels = script.labels(heap)?;
-        let capacity = script.next();
-        let actions = script.next();
-        let put = script.next();
-        let take = script.next();
-        let shared = script.set();
-        let sets = script.sets(heap)?;
         Ok(Case {
-            counts,
-            transitions,
-            divergences,
-            labels,
-            capacity,
-            actions,
-            put,
-            take,
-            shared,
-            sets,
+            counts: script.counts(),
+            transitions: script.transitions(heap)?,
+            divergences: script.divergences(heap)?,
+            labels: script.labels(heap)?,
+            capacity: script.next(),
+            actions: script.next(),
+            put: script.next(),
+            take: script.next(),
+            shared: script.set(),
+            sets: script.sets(heap)?,
         })
     }
 
-    fn table(&self, heap: Global) -> Result<Table, TableRefusal> {
-        Table::new(
+    fn table(&self, heap: Global) -> Result<Table, Unmade> {
+        Ok(Table::new(
             heap,
             self.counts,
             &self.transitions,
             &self.divergences,
             &self.labels,
-        )
+        )?)
     }
 
-    fn queue(&self) -> Result<Queue, QueueRefusal> {
-        Queue::new(self.capacity, self.actions, self.put, self.take)
+    fn queue(&self) -> Result<Queue, Unmade> {
+        Ok(Queue::new(self.capacity, self.actions, self.put, self.take)?)
     }
 
-    fn sets(&self) -> Result<Vec<SmallSet>, AllocError> {
-        self.sets.clone()
+    fn joined(&self, heap: Global) -> Result<Joined<Table, Queue>, Unmade> {
+        let table = self.table(heap).map_err(Unmade::within)?;
+        let queue = self.queue().map_err(Unmade::within)?;
+        Ok(Joined::new(table, queue, self.shared)?)
     }
 
-    fn table_report(&self, heap: Global) -> Result<String, AllocError> {
-        match self.table(heap) {
-            Ok(table) => report(heap, "table", &table),
-            Err(why) => refused(heap, "table", why.number().unwrap_or(0)),
-        }
+    fn fenced(&self, heap: Global, sets: Vec<SmallSet>) -> Result<Fenced<Table>, Unmade> {
+        let table = self.table(heap).map_err(Unmade::within)?;
+        Ok(Fenced::new(table, sets)?)
     }
 
-    fn queue_report(&self, heap: Global) -> Result<String, AllocError> {
-        match self.queue() {
-            Ok(queue) => report(heap, "queue", &queue),
-            Err(why) => refused(heap, "queue", why.number()),
-        }
-    }
-
-    fn joined_report(&self, heap: Global) -> Result<String, AllocError> {
-        match (self.table(heap), self.queue()) {
-            (Ok(table), Ok(queue)) => match Joined::new(table, queue, self.shared) {
-                Ok(both) => report(heap, "joined", &both),
-                Err(back) => refused(heap, "joined", back.why.number()),
-            },
-            _ => refused(heap, "joined", 0),
-        }
-    }
-
-    fn fenced_report(&self, heap: Global) -> Result<String, AllocError> {
-        let sets = self.sets()?;
-        match self.table(heap) {
-            Ok(table) => match Fenced::new(table, sets) {
-                Ok(layer) => report(heap, "fenced", &layer),
-                Err(back) => refused(heap, "fenced", back.why.number()),
-            },
-            Err(_) => refused(heap, "fenced", 0),
-        }
-    }
-
-    fn both(&self, heap: Global) -> Option<Joined<Table, Queue>> {
-        let table = self.table(heap).ok()?;
-        let queue = self.queue().ok()?;
-        Joined::new(table, queue, self.shared).ok()
-    }
-
-    fn layer(&self, heap: Global) -> Option<Fenced<Joined<Table, Queue>>> {
-        let sets = self.sets().ok()?;
-        let both = self.both(heap)?;
-        Fenced::new(both, sets).ok()
-    }
-
-    /// The table joined to the queue, fenced, and that joined to the queue again.
-    fn nested(&self, heap: Global) -> Option<Joined<Queue, Fenced<Joined<Table, Queue>>>> {
-        let queue = self.queue().ok()?;
-        let layer = self.layer(heap)?;
-        Joined::new(queue, layer, self.shared).ok()
-    }
-
-    fn nested_report(&self, heap: Global) -> Result<String, AllocError> {
-        match self.nested(heap) {
-            Some(source) => report(heap, "nested", &source),
-            None => refused(heap, "nested", 0),
-        }
+    /// The queue joined to a fenced layer over the table joined to the queue.
+    fn nested(
+        &self,
+        heap: Global,
+        sets: Vec<SmallSet>,
+    ) -> Result<Joined<Queue, Fenced<Joined<Table, Queue>>>, Unmade> {
+        let queue = self.queue().map_err(Unmade::within)?;
+        let both = self.joined(heap).map_err(Unmade::within)?;
+        let layer = Fenced::new(both, sets).map_err(|_| Unmade::Within)?;
+        Joined::new(queue, layer, self.shared).map_err(|_| Unmade::Within)
     }
 }
 
-/// A source that is refused, by the number of its refusal; 0 where one of its parts is.
-fn refused(heap: Global, name: &str, number: u8) -> Result<String, AllocError> {
-    format!(in heap; "{name} refused {number}\n")
+/// The report of a source, or of its refusal.
+fn told<S: Source + Drop>(
+    heap: Global,
+    name: &str,
+    made: Result<S, Unmade>,
+) -> Result<String, AllocError> {
+    match made {
+        Ok(source) => report(heap, name, &source),
+        Err(why) => format!(in heap; "{name} refused {why}\n"),
+    }
 }
 
 fn run(rt: &HostRuntime) -> anyhow::Result<()> {
@@ -153,11 +110,11 @@ fn run(rt: &HostRuntime) -> anyhow::Result<()> {
     let mut script = Script::new(heap, text.as_str())?;
     for _ in 0..script.next() {
         let case = Case::read(heap, &mut script)?;
-        rt.print(case.table_report(heap)?)?;
-        rt.print(case.queue_report(heap)?)?;
-        rt.print(case.joined_report(heap)?)?;
-        rt.print(case.fenced_report(heap)?)?;
-        rt.print(case.nested_report(heap)?)?;
+        rt.print(told(heap, "table", case.table(heap))?)?;
+        rt.print(told(heap, "queue", case.queue())?)?;
+        rt.print(told(heap, "joined", case.joined(heap))?)?;
+        rt.print(told(heap, "fenced", case.fenced(heap, case.sets.clone()?))?)?;
+        rt.print(told(heap, "nested", case.nested(heap, case.sets.clone()?))?)?;
     }
     Ok(())
 }

@@ -1,92 +1,94 @@
-ghost use Rattle.std.specs.Prelude.{◌≡◌, ℕ, slice_index};
+ghost use Rattle.std.specs.Prelude.{◌≡◌, ℕ, drop, slice_index};
 
 use lts::sets::SmallSet;
 use records::{Counts, Divergence, Label, Transition};
 use std::alloc::{AllocError, Global};
+use std::collections::VecDeque;
 
 /// The numbers of a script, taken one after the other; past its end each is 0.
 #[derive(Drop)]
 pub struct Script {
-    numbers: Vec<usize>,
-    at: usize,
+    numbers: VecDeque<usize>,
 }
 
 impl Script {
     /// The numbers of a text, parted by white space. What is no number counts as 0.
     pub(crate) fn new(heap: Global, text: &str) -> Result<Script, AllocError> {
-        let mut numbers = Vec::new(heap);
+        let mut numbers = VecDeque::new(heap);
         for word in text.split_whitespace() {
-            numbers.push(word.parse::<usize>().unwrap_or(0))?;
+            numbers.push_back(word.parse::<usize>().unwrap_or(0))?;
         }
-        Ok(Script { numbers, at: 0 })
+        Ok(Script { numbers })
     }
 
     /// The next number.
     pub(crate) fn next(&mut self) -> usize
-        ensures { result ≡ slice_index self.old.numbers.items self.old.at }
+        ensures answer { result ≡ slice_index self.old.numbers.items 0 }
+        ensures rest { self.new.numbers.items ≡ drop 1 self.old.numbers.items }
     {
-        if self.at < self.numbers.len() {
-            let number = self.numbers[self.at];
-            self.at += 1;
-            number
-        } else {
-            0
-        }
+        self.numbers.pop_front().unwrap_or(0)
     }
 
     /// The next number, or the largest of 16 bits.
     pub(crate) fn short(&mut self) -> u16 {
-        let number = self.next();
-        if number < 65535 { number as u16 } else { 65535 }
+        u16::try_from(self.next()).unwrap_or(u16::MAX)
+    }
+
+    /// A number, and then as many items as it says.
+    fn list<T: Drop, F: Fn(&mut Script) -> T>(
+        &mut self,
+        heap: Global,
+        item: F,
+    ) -> Result<Vec<T>, AllocError>
+        requires { F.IsAlwaysCallable item }
+    {
+        let mut list = Vec::new(heap);
+        for _ in 0..self.next() {
+            list.push(item(self))?;
+        }
+        Ok(list)
     }
 
     pub(crate) fn counts(&mut self) -> Counts {
-        let states = self.short();
-        let actions = self.short();
-        let atoms = self.short();
         Counts {
-            states,
-            actions,
-            atoms,
+            states: self.short(),
+            actions: self.short(),
+            atoms: self.short(),
         }
     }
 
-    /// A number of transitions, and three numbers for each.
+    /// Three numbers for each.
     pub(crate) fn transitions(&mut self, heap: Global) -> Result<Vec<Transition>, AllocError> {
-        let mut list = Vec::new(heap);
-        for _ in 0..self.next() {
-            let source = self.short();
-            let action = self.short();
-            let target = self.short();
-            list.push(Transition {
-                source,
-                action,
-                target,
-            })?;
-        }
-        Ok(list)
+        self.list(
+            heap,
+            |script| Transition {
+                source: script.short(),
+                action: script.short(),
+                target: script.short(),
+            },
+        )
     }
 
-    /// A number of divergences, and two numbers for each.
+    /// Two numbers for each.
     pub(crate) fn divergences(&mut self, heap: Global) -> Result<Vec<Divergence>, AllocError> {
-        let mut list = Vec::new(heap);
-        for _ in 0..self.next() {
-            let state = self.short();
-            let action = self.short();
-            list.push(Divergence { state, action })?;
-        }
-        Ok(list)
+        self.list(
+            heap,
+            |script| Divergence {
+                state: script.short(),
+                action: script.short(),
+            },
+        )
     }
 
-    /// A number of labels, and two numbers for each.
+    /// Two numbers for each.
     pub(crate) fn labels(&mut self, heap: Global) -> Result<Vec<Label>, AllocError> {
-        let mut list = Vec::new(heap);
-        for _ in 0..self.next() {
-            let atom = self.short();
-            let state = self.short();
-            list.push(Label { atom, state })?;
-        }
-        Ok(list)
+        self.list(
+            heap,
+            |script| Label {
+                atom: script.short(),
+                state: script.short(),
+            },
+        )
     }
 
     /// A set of actions, as bits.
@@ -94,12 +96,8 @@ impl Script {
         SmallSet::from_bits(self.next() as u64)
     }
 
-    /// A number of sets, and a number for each.
+    /// A number for each.
     pub(crate) fn sets(&mut self, heap: Global) -> Result<Vec<SmallSet>, AllocError> {
-        let mut list = Vec::new(heap);
-        for _ in 0..self.next() {
-            list.push(self.set())?;
-        }
-        Ok(list)
+        self.list(heap, Script::set)
     }
 }
