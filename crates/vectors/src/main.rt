@@ -18,46 +18,47 @@ impl<'a> Cases<'a> {
     /// The next number, with the byte that ends it.
     fn number(&mut self) -> usize {
         let rest = self.rest;
-        let mut n: usize = 0;
-        for (i, b) in rest.iter().enumerate() {
-            if *b < b'0' || *b > b'9' {
-                self.rest = &rest[i + 1..];
-                return n;
-            }
-            n = n.saturating_mul(10).saturating_add(usize::from(*b - b'0'));
-        }
-        self.rest = &rest[0..0];
-        n
+        let length = rest
+            .iter()
+            .position(|b| !b.is_ascii_digit())
+            .unwrap_or(rest.len());
+        let (digits, behind) = rest.split_at(length);
+        self.rest = behind.get(1..).unwrap_or(&[]);
+        digits.iter().fold(0, |n: usize, b| {
+            n.saturating_mul(10)
+                .saturating_add(usize::from(b.saturating_sub(b'0')))
+        })
     }
 
     /// The next `n` bytes, with the byte behind them.
     fn bytes(&mut self, n: usize) -> &'a [u8] {
         let rest = self.rest;
-        if n >= rest.len() {
-            self.rest = &rest[0..0];
-            return rest;
-        }
-        self.rest = &rest[n + 1..];
-        &rest[0..n]
+        let (bytes, behind) = rest.split_at(n.min(rest.len()));
+        self.rest = behind.get(1..).unwrap_or(&[]);
+        bytes
     }
 }
 
 /// The items before the first blank one.
 fn used<T: Copy + PartialEq>(items: &[T], blank: T) -> &[T] {
-    for (i, item) in items.iter().enumerate() {
-        if *item == blank {
-            return &items[0..i];
-        }
-    }
-    items
+    let length = items
+        .iter()
+        .position(|item| *item == blank)
+        .unwrap_or(items.len());
+    &items[..length]
+}
+
+/// How long the lists are that a case lends.
+#[derive(Clone, Copy)]
+struct Lengths {
+    transitions: usize,
+    divergences: usize,
+    labels: usize,
+    equations: usize,
 }
 
 /// The answer to a case: what is printed for the job and, where it is refused, what the lists hold then.
-fn case_answer(
-    heap: Global,
-    job: &[u8],
-    lengths: (usize, usize, usize, usize),
-) -> Result<String, AllocError> {
+fn case_answer(heap: Global, job: &[u8], lengths: Lengths) -> Result<String, AllocError> {
     let transition = Transition {
         source: 65535,
         action: 0,
@@ -76,10 +77,10 @@ fn case_answer(
         first: 0,
         second: 0,
     };
-    let mut transitions = vec![in heap; transition; lengths.0]?;
-    let mut divergences = vec![in heap; divergence; lengths.1]?;
-    let mut labels = vec![in heap; label; lengths.2]?;
-    let mut equations = vec![in heap; equation; lengths.3]?;
+    let mut transitions = vec![in heap; transition; lengths.transitions]?;
+    let mut divergences = vec![in heap; divergence; lengths.divergences]?;
+    let mut labels = vec![in heap; label; lengths.labels]?;
+    let mut equations = vec![in heap; equation; lengths.equations]?;
     let mut out = answer_with(
         heap,
         job,
@@ -103,15 +104,14 @@ fn main(rt: HostRuntime) -> io::Result<()> {
     let mut file = Vec::new(heap);
     rt.stdin().read_to_end(&mut file)?;
     let mut cases = Cases { rest: &file };
-    let count = cases.number();
-    for _ in 0..count {
+    for _ in 0..cases.number() {
         let length = cases.number();
-        let lengths = (
-            cases.number(),
-            cases.number(),
-            cases.number(),
-            cases.number(),
-        );
+        let lengths = Lengths {
+            transitions: cases.number(),
+            divergences: cases.number(),
+            labels: cases.number(),
+            equations: cases.number(),
+        };
         let out = case_answer(heap, cases.bytes(length), lengths)?;
         print!(rt; "{out}")?;
     }
