@@ -5,7 +5,8 @@ ghost use Rattle.board.specs.Links.{first?, second?, variable?, variable, link_i
 ghost use Rattle.board.specs.View.{view};
 
 use crate::board::Board;
-use semantics::{Equation, Form};
+use records::Form;
+use semantics::Equation;
 
 // Whether the first operand of a form is a variable.
 fn first_names(form: Form) -> bool

@@ -4,7 +4,7 @@ ghost use Rattle.board.specs.State.{place_of, waiting};
 ghost use Rattle.board.specs.View.{view};
 
 use crate::board::Board;
-use semantics::{Equation, Form, Refusal};
+use semantics::{Equation, Refusal};
 
 impl Board {
     /// Whether a book is loaded.
@@ -49,11 +49,7 @@ impl Board {
         if j < self.equations.len() {
             self.equations[j]
         } else {
-            Equation {
-                form: Form::False,
-                first: 0,
-                second: 0,
-            }
+            Equation::NONE
         }
     }
 

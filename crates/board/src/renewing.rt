@@ -1,5 +1,5 @@
 ghost use Rattle.std.specs.Prelude.{◌≡◌, ◌*◌, ◌≤◌, Bool, false, length, replicate, IfOk, vec_len, vec_capacity};
-ghost use Rattle.semantics.specs.Equations.{form_of};
+ghost use Rattle.records.specs.Letters.{form_of};
 ghost use Rattle.semantics.specs.Plain.{equation_of, book_of};
 ghost use Rattle.board.specs.State.{blank};
 ghost use Rattle.board.specs.Renewing.{fresh, room?, renewed};
@@ -7,7 +7,7 @@ ghost use Rattle.board.specs.View.{view};
 
 use crate::board::Board;
 use records::EquationRecord;
-use semantics::{Equation, Form};
+use semantics::Equation;
 use std::alloc::{AllocError, Global};
 
 // Fills with `n` copies of `x`, in the room that there is.
@@ -21,22 +21,12 @@ fn refill<T: Copy>(v: &mut Vec<T>, n: usize, x: T)
     let _ = v.resize(n, x);
 }
 
-// The equation that a record spells.
+// The equation that a record spells; a record of no known form spells none.
+#[tactic(auto, unfolding(semantics::specs::Plain::equation_of))]
 fn read_equation(written: &EquationRecord) -> Equation
     ensures { result ≡ equation_of (form_of written.now.form) written.now.first written.now.second }
 {
-    match Form::of(written.form) {
-        Some(form) => Equation {
-            form,
-            first: written.first,
-            second: written.second,
-        },
-        None => Equation {
-            form: Form::False,
-            first: 0,
-            second: 0,
-        },
-    }
+    Equation::try_from(*written).unwrap_or(Equation::NONE)
 }
 
 // The equations of the records, in the room that there is.
