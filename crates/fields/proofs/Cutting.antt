@@ -1,30 +1,48 @@
 -- How bytes are cut at their first mark.
-use Rattle.std.proofs.Common.{◌≡◌, ℕ, zero, suc, ◌+◌, ◌-◌, ◌<◌, Bool, true, false, cond, eqb, List, [], ◌∷◌, length, get_or, take, drop, refl, add-one, arith}
-use native.Mathlib.Nat.{sub-zero}
+use Rattle.std.proofs.Common.{◌≡◌, ℕ, ◌+◌, ◌-◌, ◌<◌, ◌≤◌, ◌==◌, Bool, true, false, cond, eqb, List, [], ◌∷◌, length, take, drop, position, Some, None, sym, refl, subst, inl, inr, one-add, arith}
+use native.Mathlib.Numerals.{unary_clauses}
+use Rattle.std.specs.List.{position_or_len}
 use Rattle.std.proofs.lemmas.List.{take_rest}
-use Rattle.std.proofs.lemmas.Bool.{eq-eqb, ne_eqb}
+use Rattle.std.proofs.lemmas.Option.{none-some, same_Some}
+use Rattle.std.proofs.lemmas.Bool.{cases_Bool, cases_lt, lt-ltb, le-ltb}
 use Rattle.fields.specs.Pieces.{pieces, onto}
 
--- none of the first n bytes is the mark
-abbrev pub Free : ℕ → List ℕ → ℕ → Type 0
-Free m bs n = (k : ℕ) → k < n → get_or bs k 0 ≡ m → ⊥
+-- where the first mark stands, or the length
+abbrev first : ℕ → List ℕ → ℕ
+first m bs = position_or_len (λ b. b == m) bs
 
-pub pieces_none : (m : ℕ) (bs : List ℕ) → Free m bs (length bs) → pieces m bs ≡ bs ∷ []
+none_first : (m : ℕ) (bs : List ℕ) → length bs ≤ first m bs → pieces m bs ≡ bs ∷ []
 unfolding pieces
-pieces_none m [] h = refl
-pieces_none m (b ∷ bs) h =
-    rw (ne_eqb b m (h 0 (omega arith)), pieces_none m bs (λ k l. h (suc k) (omega arith)))
+none_first m [] h = refl
+none_first m (b ∷ bs) h =
+    elim (cases_Bool (b == m)) [
+      | inl is ↦ absurd (omega (arith, rw is at h))
+      | inr not ↦ rw (not, none_first m bs (omega (arith, rw not at h)))
+    ]
 
-pub pieces_first : (m : ℕ) (bs : List ℕ) (i : ℕ) → i < length bs → Free m bs i → get_or bs i 0 ≡ m → pieces m bs ≡ take i bs ∷ pieces m (drop (suc i) bs)
+cut_first : (m : ℕ) (bs : List ℕ) → first m bs < length bs → pieces m bs ≡ take (first m bs) bs ∷ pieces m (drop (first m bs + 1) bs)
 unfolding pieces
-pieces_first m [] i l h e = absurd (omega arith)
-pieces_first m (b ∷ bs) zero l h e = rw (eq-eqb b m e)
-pieces_first m (b ∷ bs) (suc i) l h e =
-    rw (ne_eqb b m (h 0 (omega arith)), pieces_first m bs i (omega arith) (λ k l. h (suc k) (omega arith)) e)
+cut_first m [] h = absurd (omega arith)
+cut_first m (b ∷ bs) h =
+    elim (cases_Bool (b == m)) [
+      | inl is ↦ rw is refl
+      | inr not ↦ rw (not, cut_first m bs (omega (arith, rw not at h))) (simp (one-add, unary_clauses) refl)
+    ]
 
--- as the checker reads `&bytes[0..i]` and `&bytes[i + 1..]`
-pub pieces_cut : (m : ℕ) (bs : List ℕ) (i : ℕ) → i < length bs → Free m bs i → get_or bs i 0 ≡ m → pieces m bs ≡ take (i - 0) bs ∷ pieces m (take (length bs - (i + 1)) (drop (i + 1) bs))
-pieces_cut m bs i l h e = rw (sub-zero, take_rest bs (i + 1), add-one) (pieces_first m bs i l h e)
+pub pieces_none : (m : ℕ) (bs : List ℕ) → position (λ b. b == m) bs ≡ None → pieces m bs ≡ bs ∷ []
+pieces_none m bs e =
+    elim (cases_lt (first m bs) (length bs)) [ inl l ↦ absurd (none-some (first m bs) (sym (rw (lt-ltb (first m bs) (length bs) l) at e))) | inr l ↦ none_first m bs l ]
+
+-- as the checker reads `&bytes[..i]` and `&bytes[i + 1..]`
+pub pieces_first : (m : ℕ) (bs : List ℕ) (i : ℕ) → position (λ b. b == m) bs ≡ Some i → pieces m bs ≡ take i bs ∷ pieces m (take (length bs - (i + 1)) (drop (i + 1) bs))
+pieces_first m bs i e =
+    rw take_rest
+    (elim (cases_lt (first m bs) (length bs)) [
+      | inl l ↦
+          let same : first m bs ≡ i = same_Some _ _ (rw (lt-ltb (first m bs) (length bs) l) at e) in
+          let P : ℕ → Type 0 = λ k. pieces m bs ≡ take k bs ∷ pieces m (drop (k + 1) bs) in subst P same (cut_first m bs l)
+      | inr l ↦ absurd (none-some i (rw (le-ltb (first m bs) (length bs) l) at e))
+    ])
 
 onto_some : (b : ℕ) (ps : List (List ℕ)) → onto b ps ≡ [] → ⊥
 onto_some b [] e = let z : ◌≡◌ {A = ℕ} 0 1 = cc in omega arith

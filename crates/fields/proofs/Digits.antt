@@ -1,6 +1,5 @@
 -- Digits one by one.
-use Rattle.std.proofs.Common.{◌≡◌, ℕ, zero, suc, ◌+◌, ◌-◌, ◌*◌, ◌^◌, ◌<◌, ◌≤◌, true, false, ◌&&◌, ltb, leb, List, [], ◌∷◌, ◌++◌, length, get_or, take, sym, refl, ap, ◌∙◌, inl, inr, arith, lit<}
-use native.Mathlib.Nat.{pow-le-pow_right}
+use Rattle.std.proofs.Common.{◌≡◌, ℕ, zero, suc, ◌+◌, ◌-◌, ◌*◌, ◌<◌, ◌≤◌, true, false, ◌&&◌, ltb, leb, List, [], ◌∷◌, ◌++◌, length, get_or, take, sym, refl, ap, ◌∙◌, inl, inr, arith}
 use Rattle.std.proofs.lemmas.List.{take_more, take_all}
 use Rattle.std.proofs.lemmas.Bool.{and_parts, and_from, and_left, and_right, cases_lt, le-ltb, lt-leb}
 use Rattle.fields.specs.Numbers.{digit?, digits?, value_after, value, number?}
@@ -61,7 +60,3 @@ wrong_length bs h =
           and_right (ltb 0 (length bs)) (leb (length bs) 5 && digits? bs) (and_left (leb (length bs) 5) (digits? bs) (lt-leb (length bs) 5 many))
       | inr none ↦ and_left (ltb 0 (length bs)) (leb (length bs) 5 && digits? bs) (le-ltb 0 (length bs) none)
     ]
-
--- i digits, at most four, are below 10,000
-pub few_digits : (i : ℕ) → i < 5 → 10 ^ i ≤ 10000
-few_digits i l = pow-le-pow_right {n = 10} (lit< tt) {i = i} {j = 4} (omega arith)

@@ -1,23 +1,23 @@
 ghost use Rattle.std.specs.Prelude.{◌≡◌};
-ghost use Rattle.fields.specs.Faults.{cause_number};
+ghost use Rattle.fields.specs.Faults.{cause_number, fault};
 
 /// Why a text is refused.
 #[derive(Clone, Copy, Debug, PartialEq, Eq)]
 pub enum Cause {
     /// the text is empty or too long
-    Size,
+    Size = 1,
     /// a line of no known form, or byte 10 is missing
-    Form,
+    Form = 2,
     /// a number field is not one to five digits
-    Malformed,
+    Malformed = 3,
     /// a number outside its range
-    Range,
+    Range = 4,
     /// a record repeated
-    Repeated,
+    Repeated = 5,
     /// the caller's list, or its limit, is full
-    Full,
+    Full = 6,
     /// an equation out of turn, missing or extra
-    Turn,
+    Turn = 7,
 }
 
 impl Cause {
@@ -25,14 +25,17 @@ impl Cause {
     pub fn number(self) -> u8
         ensures { result ≡ cause_number self }
     {
-        match self {
-            Cause::Size => 1,
-            Cause::Form => 2,
-            Cause::Malformed => 3,
-            Cause::Range => 4,
-            Cause::Repeated => 5,
-            Cause::Full => 6,
-            Cause::Turn => 7,
+        self as u8
+    }
+
+    /// The fault of this cause at field `field` of line `line`.
+    pub fn at(self, line: usize, field: usize) -> Fault
+        ensures { result ≡ fault self line field }
+    {
+        Fault {
+            cause: self,
+            line,
+            field,
         }
     }
 }

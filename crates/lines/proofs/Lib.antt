@@ -3,3 +3,4 @@ pub mod Outcomes
 pub mod Shapes
 pub mod Steps
 pub mod Filling
+pub mod Ranging

@@ -1,19 +1,43 @@
 -- Fields that are, or are not, of a form.
-use Rattle.std.proofs.Common.{◌≡◌, ℕ, ◌<◌, Bool, true, false, ◌&&◌, ◌||◌, eqb, List, [], ◌∷◌, length, get_or, Err, refl, ap, ◌∙◌, inl, inr, arith}
+use Rattle.std.proofs.Common.{◌≡◌, ℕ, ◌<◌, Bool, true, false, ◌&&◌, ◌||◌, eqb, List, [], ◌∷◌, ◌++◌, length, get_or, Err, refl, ap, ◌∙◌, inl, inr, arith}
 use Rattle.std.proofs.lemmas.Bool.{and_parts, or_cases, or_parts, eqb-true, ne_eqb, both_ways}
-use Rattle.fields.specs.declared.fault.Cause.TheVariants.{Form}
+use Rattle.fields.specs.Pieces.{pieces}
+use Rattle.fields.proofs.Cutting.{pieces_length}
+use Rattle.fields.specs.declared.fault.Cause.TheVariants as cause
 use Rattle.lines.specs.Kinds.{Slot, byte, number, Kind, fits, says}
-use Rattle.lines.specs.Forms.{any, forms, fits_one}
+use Rattle.lines.specs.Forms.{forms, fits_one, fields_of}
+use Rattle.lines.specs.declared.line.Line.{Line}
+use Rattle.lines.specs.declared.line.Line.TheVariants.{Flow, Transition, Divergence, Label, Rulebook, Equation}
+use Rattle.records.specs.declared.Fixpoint.TheVariants.{Greatest, Least}
+use Rattle.records.specs.declared.Form.TheVariants.{True, False, Atom, Or, And, Diamond, Box}
 
 pub single : (xs : List ℕ) (b : ℕ) → length xs ≡ 1 → get_or xs 0 0 ≡ b → xs ≡ b ∷ []
 single [] b l e = absurd (omega arith)
 single (x ∷ []) b l e = ap (λ y. y ∷ []) e
 single (x ∷ y ∷ xs) b l e = absurd (omega arith)
 
--- more than one field
-pub too_many : (f : List ℕ) (fs : List (List ℕ)) → 0 < length fs → fits (any ∷ []) (f ∷ fs) ≡ false
-too_many f [] l = absurd (omega arith)
-too_many f (g ∷ fs) l = refl
+-- the fields of a known line, and more fields
+too_many : (l : Line) (f : List ℕ) (fs : List (List ℕ)) → fits_one forms (fields_of l ++ f ∷ fs) ≡ false
+too_many (Flow s a p) f fs = refl
+too_many (Transition s a t) f fs = refl
+too_many (Divergence s a) f fs = refl
+too_many (Label p s) f fs = refl
+too_many (Rulebook Greatest n) f fs = refl
+too_many (Rulebook Least n) f fs = refl
+too_many (Equation i True x y) f fs = refl
+too_many (Equation i False x y) f fs = refl
+too_many (Equation i Atom x y) f fs = refl
+too_many (Equation i Or x y) f fs = refl
+too_many (Equation i And x y) f fs = refl
+too_many (Equation i Diamond x y) f fs = refl
+too_many (Equation i Box x y) f fs = refl
+
+pub unended : (l : Line) (rest : List ℕ) → fits_one forms (fields_of l ++ pieces 44 rest) ≡ false
+unended l rest = go (pieces 44 rest) (pieces_length 44 rest)
+  where
+    go : (fs : List (List ℕ)) → 0 < length fs → fits_one forms (fields_of l ++ fs) ≡ false
+    go [] some = absurd (omega arith)
+    go (f ∷ fs) some = too_many l f fs
 
 -- the same bytes in the same fields
 abbrev pub alike : List Slot → List Slot → Bool
@@ -51,15 +75,15 @@ unlisted ss (ts ∷ tss) fs l h =
     elim (or_cases (alike ss ts) (listed ss tss) l) [ inl a ↦ alike_fits ss ts fs a ∙ p.0 | inr r ↦ unlisted ss tss fs r p.1 ]
 
 -- R and a field of one character that is no side
-pub no_side : (c : ℕ) (n : List ℕ) → (c ≡ 71 → ⊥) → (c ≡ 76 → ⊥) → fits_one forms ((82 ∷ []) ∷ (c ∷ []) ∷ n ∷ []) ≡ false
-no_side c n g l = rw (ne_eqb c 71 g, ne_eqb c 76 l)
+pub no_side : (c : ℕ) (fs : List (List ℕ)) → (c ≡ 71 → ⊥) → (c ≡ 76 → ⊥) → fits_one forms ((82 ∷ []) ∷ (c ∷ []) ∷ fs) ≡ false
+no_side c fs g l = rw (ne_eqb c 71 g, ne_eqb c 76 l)
 
 unfoldable pub all_listed : {R : Type 0} → List (Kind R) → Bool
 all_listed [] = true
 all_listed (k ∷ ks) = listed k.slots forms && all_listed ks
 
 -- fields of no known form say nothing in kinds of known forms
-pub nothing_said : {R : Type 0} (ks : List (Kind R)) (fs : List (List ℕ)) → all_listed ks ≡ true → fits_one forms fs ≡ false → says ks fs ≡ Err (Form, 0)
+pub nothing_said : {R : Type 0} (ks : List (Kind R)) (fs : List (List ℕ)) → all_listed ks ≡ true → fits_one forms fs ≡ false → says ks fs ≡ Err (cause.Form, 0)
 unfolding all_listed
 nothing_said [] fs l h = refl
 nothing_said (k ∷ ks) fs l h =

@@ -1,19 +1,11 @@
 -- The forms of lines: a letter, and then numbers, but for the side of a rulebook and the form of an equation.
-use Rattle.std.specs.Prelude.{◌≡◌, ℕ, Bool, true, false, ◌||◌, List, [], ◌∷◌, ◌==◌}
-use Rattle.records.specs.declared.Fixpoint.{Fixpoint}
-use Rattle.records.specs.declared.Fixpoint.TheVariants.{Greatest, Least}
+use Rattle.std.specs.Prelude.{◌≡◌, ℕ, Bool, false, ◌||◌, List, [], ◌∷◌, Some, None, Option}
+use Rattle.std.specs.Borrow.{Bor}
+use Rattle.fields.specs.Pieces.{pieces}
+use Rattle.records.specs.Letters.{side_letter, form_letter}
 use Rattle.lines.specs.Kinds.{Slot, byte, number, fits}
 use Rattle.lines.specs.declared.line.Line.{Line}
 use Rattle.lines.specs.declared.line.Line.TheVariants.{Flow, Transition, Divergence, Label, Rulebook, Equation}
-
--- the letter of a side: G or L
-abbrev pub side_letter : Fixpoint → ℕ
-side_letter Greatest = 71
-side_letter Least = 76
-
--- the forms of equations: t f A | & < [
-abbrev pub form? : ℕ → Bool
-form? c = c == 116 || (c == 102 || (c == 65 || (c == 124 || (c == 38 || (c == 60 || c == 91)))))
 
 -- the fields of a line, its letter first
 abbrev pub fields_of : Line → List (List ℕ)
@@ -22,21 +14,11 @@ fields_of (Transition s a t) = (84 ∷ []) ∷ s.now ∷ a.now ∷ t.now ∷ []
 fields_of (Divergence s a) = (85 ∷ []) ∷ s.now ∷ a.now ∷ []
 fields_of (Label p s) = (80 ∷ []) ∷ p.now ∷ s.now ∷ []
 fields_of (Rulebook d n) = (82 ∷ []) ∷ (side_letter d ∷ []) ∷ n.now ∷ []
-fields_of (Equation i c x y) = (81 ∷ []) ∷ i.now ∷ (c ∷ []) ∷ x.now ∷ y.now ∷ []
-
--- an equation's form is one of the seven
-abbrev pub KnownForm : Line → Type 0
-KnownForm (Flow s a p) = Unit {0}
-KnownForm (Transition s a t) = Unit {0}
-KnownForm (Divergence s a) = Unit {0}
-KnownForm (Label p s) = Unit {0}
-KnownForm (Rulebook d n) = Unit {0}
-KnownForm (Equation i c x y) = form? c ≡ true
+fields_of (Equation i c x y) = (81 ∷ []) ∷ i.now ∷ (form_letter c ∷ []) ∷ x.now ∷ y.now ∷ []
 
 -- the line is these fields
 pub record LineOf (fs : List (List ℕ)) (l : Line) : Type 0 where
   pub fields : fs ≡ fields_of l
-  pub known : KnownForm l
 
 -- a field that is some number, or should be
 abbrev pub any : Slot
@@ -57,3 +39,8 @@ forms =
 abbrev pub fits_one : List (List Slot) → List (List ℕ) → Bool
 fits_one [] fs = false
 fits_one (ss ∷ sss) fs = fits ss fs || fits_one sss fs
+
+-- the fields that are still to be read, of what is left of a line
+abbrev pub unread : Option (Bor (List ℕ)) → List (List ℕ)
+unread None = []
+unread (Some rest) = pieces 44 rest.now

@@ -2,3 +2,4 @@ pub mod Kinds
 pub mod Forms
 pub mod Texts
 pub mod Lent
+pub mod Ranges

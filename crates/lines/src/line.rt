@@ -1,13 +1,14 @@
-ghost use Rattle.std.specs.Prelude.{◌≡◌, ℕ, true, false, List, [], ◌∷◌, MatchOption, MatchResult, ◌≢◌};
+ghost use Rattle.std.specs.Prelude.{◌≡◌, ℕ, true, false, List, [], ◌∷◌, ◌++◌, MatchOption, MatchResult};
 ghost use Rattle.fields.specs.Faults.{fault};
 ghost use Rattle.fields.specs.Pieces.{pieces};
-ghost use Rattle.fields.specs.declared.fault.Cause.TheVariants.{Form};
-ghost use Rattle.lines.specs.Kinds.{is_byte, fits};
-ghost use Rattle.lines.specs.Forms.{side_letter, form?, any, forms, fits_one, LineOf};
+ghost use Rattle.fields.specs.declared.fault.Cause.TheVariants as cause;
+ghost use Rattle.lines.specs.Kinds.{is_byte};
+ghost use Rattle.lines.specs.Forms.{forms, fits_one, fields_of, LineOf, unread};
 
 use fields::cut::cut;
 use fields::fault::{Cause, Fault};
-use records::Fixpoint;
+use fields::lines::RawLine;
+use records::{Fixpoint, Form};
 
 /// A line by its kind. Its number fields are parts of the text, not yet read.
 #[derive(Clone, Copy, Debug)]
@@ -36,31 +37,10 @@ pub enum Line<'a> {
     },
     Equation {
         index: &'a [u8],
-        form: char,
+        form: Form,
         first: &'a [u8],
         second: &'a [u8],
     },
-}
-
-/// The side that a letter stands for.
-pub fn side_of(c: char) -> Option<Fixpoint>
-    ensures { MatchOption result ((d : Fixpoint) → c ≢ side_letter d) (λ d. c ≡ side_letter d) }
-{
-    match c {
-        'G' => Some(Fixpoint::Greatest),
-        'L' => Some(Fixpoint::Least),
-        _ => None,
-    }
-}
-
-/// Whether a character is one of the seven forms of equations.
-pub fn is_form(c: char) -> bool
-    ensures { result ≡ form? c }
-{
-    match c {
-        't' | 'f' | 'A' | '|' | '&' | '<' | '[' => true,
-        _ => false,
-    }
 }
 
 /// The one character of a field.
@@ -73,111 +53,79 @@ fn only_char(field: &[u8]) -> Option<char>
     Some(char::from(*b))
 }
 
-fn one_field(bytes: &[u8]) -> Option<&[u8]>
-    ensures { MatchOption result (fits (any ∷ []) (pieces 44 bytes.now) ≡ false) (λ p. pieces 44 bytes.now ≡ p.now ∷ []) }
-{
-    match cut(bytes, b',') {
-        None => Some(bytes),
-        Some(_) => None,
+/// The fields of a line that are still to be read.
+#[derive(Clone, Copy)]
+struct Fields<'a> {
+    rest: Option<&'a [u8]>,
+}
+
+impl<'a> Fields<'a> {
+    /// The next of the fields that commas part; none after the last.
+    fn next_field(&mut self) -> Option<&'a [u8]>
+        ensures { MatchOption result (unread self.old.rest ≡ []) (λ x. unread self.old.rest ≡ x.now ∷ unread self.new.rest) }
+    {
+        let bytes = self.rest?;
+        let (field, rest) = match cut(bytes, b',') {
+            Some((field, rest)) => (field, Some(rest)),
+            None => (bytes, None),
+        };
+        self.rest = rest;
+        Some(field)
     }
 }
 
-fn two_fields(bytes: &[u8]) -> Option<(&[u8], &[u8])>
-    ensures { MatchOption result (fits (any ∷ any ∷ []) (pieces 44 bytes.now) ≡ false) (λ p. pieces 44 bytes.now ≡ p.0.now ∷ p.1.now ∷ []) }
+/// Reads the fields of a line by its kind; none where they are of no known form.
+fn read_fields<'a>(fields: &mut Fields<'a>) -> Option<Line<'a>>
+    ensures { MatchOption result (fits_one forms (unread fields.old.rest) ≡ false) (λ l. unread fields.old.rest ≡ fields_of l ++ unread fields.new.rest) }
 {
-    let (a, rest) = cut(bytes, b',')?;
-    let b = one_field(rest)?;
-    Some((a, b))
-}
-
-fn three_fields(bytes: &[u8]) -> Option<(&[u8], &[u8], &[u8])>
-    ensures { MatchOption result (fits (any ∷ any ∷ any ∷ []) (pieces 44 bytes.now) ≡ false) (λ p. pieces 44 bytes.now ≡ p.0.now ∷ p.1.now ∷ p.2.now ∷ []) }
-{
-    let (a, rest) = cut(bytes, b',')?;
-    let (b, d) = two_fields(rest)?;
-    Some((a, b, d))
-}
-
-fn four_fields(bytes: &[u8]) -> Option<(&[u8], &[u8], &[u8], &[u8])>
-    ensures { MatchOption result (fits (any ∷ any ∷ any ∷ any ∷ []) (pieces 44 bytes.now) ≡ false) (λ p. pieces 44 bytes.now ≡ p.0.now ∷ p.1.now ∷ p.2.now ∷ p.3.now ∷ []) }
-{
-    let (a, rest) = cut(bytes, b',')?;
-    let (b, d, e) = three_fields(rest)?;
-    Some((a, b, d, e))
-}
-
-/// The fields after R.
-fn rulebook_line(bytes: &[u8]) -> Option<Line<'_>>
-    ensures { MatchOption result (fits_one forms ((82 ∷ []) ∷ pieces 44 bytes.now) ≡ false) (λ l. LineOf ((82 ∷ []) ∷ pieces 44 bytes.now) l) }
-{
-    let (side, count) = two_fields(bytes)?;
-    let side = side_of(only_char(side)?)?;
-    Some(Line::Rulebook { side, count })
-}
-
-/// The fields after Q.
-fn equation_line(bytes: &[u8]) -> Option<Line<'_>>
-    ensures { MatchOption result (fits_one forms ((81 ∷ []) ∷ pieces 44 bytes.now) ≡ false) (λ l. LineOf ((81 ∷ []) ∷ pieces 44 bytes.now) l) }
-{
-    let (index, form, first, second) = four_fields(bytes)?;
-    let form = only_char(form)?;
-    if !is_form(form) {
-        return None;
-    }
-    Some(Line::Equation {
-        index,
-        form,
-        first,
-        second,
-    })
-}
-
-/// The line by its kind, or none where it is of no known form.
-fn known_line<'a>(bytes: &'a [u8]) -> Option<Line<'a>>
-    ensures { MatchOption result (fits_one forms (pieces 44 bytes.now) ≡ false) (λ l. LineOf (pieces 44 bytes.now) l) }
-{
-    let (letter, rest) = cut(bytes, b',')?;
-    match only_char(letter)? {
-        'F' => {
-            let (states, actions, atoms) = three_fields(rest)?;
-            Some(Line::Flow {
-                states,
-                actions,
-                atoms,
-            })
-        }
-        'T' => {
-            let (source, action, target) = three_fields(rest)?;
-            Some(Line::Transition {
-                source,
-                action,
-                target,
-            })
-        }
-        'U' => {
-            let (state, action) = two_fields(rest)?;
-            Some(Line::Divergence { state, action })
-        }
-        'P' => {
-            let (atom, state) = two_fields(rest)?;
-            Some(Line::Label { atom, state })
-        }
-        'R' => rulebook_line(rest),
-        'Q' => equation_line(rest),
+    match only_char(fields.next_field()?)? {
+        'F' => Some(Line::Flow {
+            states: fields.next_field()?,
+            actions: fields.next_field()?,
+            atoms: fields.next_field()?,
+        }),
+        'T' => Some(Line::Transition {
+            source: fields.next_field()?,
+            action: fields.next_field()?,
+            target: fields.next_field()?,
+        }),
+        'U' => Some(Line::Divergence {
+            state: fields.next_field()?,
+            action: fields.next_field()?,
+        }),
+        'P' => Some(Line::Label {
+            atom: fields.next_field()?,
+            state: fields.next_field()?,
+        }),
+        'R' => Some(Line::Rulebook {
+            side: Fixpoint::try_from(only_char(fields.next_field()?)?).ok()?,
+            count: fields.next_field()?,
+        }),
+        'Q' => Some(Line::Equation {
+            index: fields.next_field()?,
+            form: Form::try_from(only_char(fields.next_field()?)?).ok()?,
+            first: fields.next_field()?,
+            second: fields.next_field()?,
+        }),
         _ => None,
     }
 }
 
-/// Line `line` of a text, by its kind.
-pub fn read_line(bytes: &[u8], line: usize) -> Result<Line<'_>, Fault>
-    ensures { MatchResult result (λ l. LineOf (pieces 44 bytes.now) l) (λ f. (fits_one forms (pieces 44 bytes.now) ≡ false) × (f ≡ fault Form line 0)) }
+/// The line by its kind, or none where it is of no known form.
+fn known_line(bytes: &[u8]) -> Option<Line<'_>>
+    ensures { MatchOption result (fits_one forms (pieces 44 bytes.now) ≡ false) (λ l. LineOf (pieces 44 bytes.now) l) }
 {
-    match known_line(bytes) {
-        Some(l) => Ok(l),
-        None => Err(Fault {
-            cause: Cause::Form,
-            line,
-            field: 0,
-        }),
+    let mut fields = Fields { rest: Some(bytes) };
+    let line = read_fields(&mut fields)?;
+    match fields.rest {
+        None => Some(line),
+        Some(_) => None,
     }
+}
+
+/// A line of a text, by its kind.
+pub fn read_line(line: RawLine<'_>) -> Result<Line<'_>, Fault>
+    ensures { MatchResult result (λ l. LineOf (pieces 44 line.entry.bytes.now) l) (λ f. (fits_one forms (pieces 44 line.entry.bytes.now) ≡ false) × (f ≡ fault cause.Form line.entry.number 0)) }
+{
+    known_line(line.bytes).ok_or(line.fault(Cause::Form, 0))
 }

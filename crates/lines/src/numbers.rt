@@ -1,73 +1,67 @@
-ghost use Rattle.std.specs.Prelude.{◌≡◌, ℕ, ◌≤◌, true, false, ◌&&◌, List, [], ◌∷◌, Ok, Err, MatchResult, nat_le, nat_lt};
+ghost use Rattle.std.specs.Prelude.{◌≡◌, ◌≤◌, true, false, Ok, Err, MatchResult};
 ghost use Rattle.fields.specs.Faults.{fault};
-ghost use Rattle.fields.specs.declared.fault.Cause.TheVariants.{Range};
-ghost use Rattle.lines.specs.Kinds.{number, checked};
+ghost use Rattle.fields.specs.Numbers.{number?, Spells};
+ghost use Rattle.fields.specs.declared.fault.Cause.TheVariants.{Malformed, Range};
+ghost use Rattle.lines.specs.Ranges.{in_range, ranged};
 
+use crate::limits::Limits;
 use fields::fault::{Cause, Fault};
+use fields::lines::RawLine;
 use fields::number::read_number;
 
-/// The range of a number field: from `low` to below `past`.
+/// The number that a field spells, the field's place, and the range that the number has to be in.
 #[derive(Clone, Copy, Debug)]
-pub struct Limits {
-    pub low: u32,
-    pub past: u32,
-    ghost small: { past ≤ 65536 },
+pub struct Numeral {
+    pub value: u32,
+    pub at: usize,
+    pub limits: Limits,
 }
 
-/// The number of field `at` of line `line`, where it is in its range.
-pub fn within(n: u32, limits: Limits, line: usize, at: usize) -> Result<u16, Fault>
-    ensures { MatchResult result
-        (λ m. (m ≡ n) × ((nat_le limits.low n && nat_lt n limits.past) ≡ true))
-        (λ f. ((nat_le limits.low n && nat_lt n limits.past) ≡ false) × (f ≡ fault Range line at)) }
-{
-    if n < limits.low || n >= limits.past {
-        return Err(Fault {
-            cause: Cause::Range,
-            line,
-            field: at,
-        });
+impl Limits {
+    /// The number that field `at` of the line spells, which has to be in this range.
+    pub fn read(self, line: RawLine<'_>, at: usize, field: &[u8]) -> Result<Numeral, Fault>
+        ensures { MatchResult result
+            (λ x. Spells field.now x.value × (x.at ≡ at) × (x.limits ≡ self))
+            (λ f. (number? field.now ≡ false) × (f ≡ fault Malformed line.entry.number at)) }
+    {
+        let value = read_number(field, line.number, at)?;
+        Ok(Numeral {
+            value,
+            at,
+            limits: self,
+        })
     }
-    Ok(n as u16)
 }
 
-/// The numbers of fields 2 and 3 of line `line`.
-pub fn two_numbers(
-    a: &[u8],
-    b: &[u8],
-    la: Limits,
-    lb: Limits,
-    line: usize,
-) -> Result<(u16, u16), Fault>
-    ensures { MatchResult result
-        (λ p. checked 2 (number la.low la.past ∷ number lb.low lb.past ∷ []) (a.now ∷ b.now ∷ []) ≡ Ok (p.0 ∷ p.1 ∷ []))
-        (λ f. (checked 2 (number la.low la.past ∷ number lb.low lb.past ∷ []) (a.now ∷ b.now ∷ []) ≡ Err (f.cause, f.field)) × (f.line ≡ line)) }
-{
-    let x = read_number(a, line, 2)?;
-    let y = read_number(b, line, 3)?;
-    let x = within(x, la, line, 2)?;
-    let y = within(y, lb, line, 3)?;
-    Ok((x, y))
+impl Numeral {
+    /// The number, where it is in its range.
+    pub fn within(self, line: RawLine<'_>) -> Result<u16, Fault>
+        ensures { MatchResult result
+            (λ n. (n ≡ self.value) × (in_range self ≡ true))
+            (λ f. (in_range self ≡ false) × (f ≡ fault Range line.entry.number self.at)) }
+    {
+        let Limits { low, past } = self.limits;
+        if (low..past).contains(&self.value) {
+            Ok(self.value as u16)
+        } else {
+            Err(line.fault(Cause::Range, self.at))
+        }
+    }
 }
 
-/// The numbers of fields 2, 3 and 4 of line `line`.
-pub fn three_numbers(
-    a: &[u8],
-    b: &[u8],
-    d: &[u8],
-    la: Limits,
-    lb: Limits,
-    ld: Limits,
-    line: usize,
-) -> Result<(u16, u16, u16), Fault>
+/// The numbers, where each is in its range; else the first that is not is at fault.
+pub fn all_within<const N: usize>(
+    line: RawLine<'_>,
+    numerals: [Numeral; N],
+) -> Result<[u16; N], Fault>
     ensures { MatchResult result
-        (λ p. checked 2 (number la.low la.past ∷ number lb.low lb.past ∷ number ld.low ld.past ∷ []) (a.now ∷ b.now ∷ d.now ∷ []) ≡ Ok (p.0 ∷ p.1 ∷ p.2 ∷ []))
-        (λ f. (checked 2 (number la.low la.past ∷ number lb.low lb.past ∷ number ld.low ld.past ∷ []) (a.now ∷ b.now ∷ d.now ∷ []) ≡ Err (f.cause, f.field)) × (f.line ≡ line)) }
+        (λ ns. ranged numerals.entry ≡ Ok ns)
+        (λ f. (ranged numerals.entry ≡ Err (f.cause, f.field)) × (f.line ≡ line.entry.number)) }
 {
-    let x = read_number(a, line, 2)?;
-    let y = read_number(b, line, 3)?;
-    let z = read_number(d, line, 4)?;
-    let x = within(x, la, line, 2)?;
-    let y = within(y, lb, line, 3)?;
-    let z = within(z, ld, line, 4)?;
-    Ok((x, y, z))
+    let mut numbers = [0; N];
+    // by index: under an iterator of `numerals` the proof doesn't know its length where the loop begins
+    for i in 0..N {
+        numbers[i] = numerals[i].within(line)?;
+    }
+    Ok(numbers)
 }

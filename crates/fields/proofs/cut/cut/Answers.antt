@@ -1,12 +1,9 @@
-use Rattle.std.proofs.Common.{arith, length-drop, length-take}
-use Rattle.fields.proofs.Cutting.{pieces_cut, pieces_none}
+use Rattle.std.proofs.Common.{sym, ◌∙◌}
+use Rattle.fields.proofs.Cutting.{pieces_none, pieces_first}
 use Rattle.fields.proofs.cut.cut.Goals as goal
 
-pub returns-then-b-mark : goal.returns-then-b-mark
-returns-then-b-mark c = record {
-  pieces = pieces_cut _ _ c.loop-i.i (omega arith) c.loop-i.invariant c.if-b-mark.true;
-  long = simp (length-take, length-drop) (omega arith);
-}
+pub returns-in_err-at-clause-pieces : goal.returns-in_err-at-clause-pieces
+returns-in_err-at-clause-pieces c = rw c.from_residual.ensures (pieces_none _ _ (sym c.first_at.ensures ∙ c.in_err-at.was))
 
-pub returns : goal.returns
-returns c = record { pieces = pieces_none _ _ (λ k l. c.loop-i.invariant k (omega arith)); long = tt }
+pub returns-clause-pieces : goal.returns-clause-pieces
+returns-clause-pieces c = pieces_first _ _ _ (sym c.first_at.ensures ∙ c.in_ok-at.was)
