@@ -1,3 +1,4 @@
 pub mod Parts
 pub mod Jobs
 pub mod Reading
+pub mod Spelling

@@ -1,3 +1,4 @@
 pub mod Rulebooks
 pub mod Placing
 pub mod Reading
+pub mod Spelling

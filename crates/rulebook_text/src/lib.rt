@@ -3,3 +3,4 @@
 
 pub mod equation;
 pub mod rulebook;
+mod spelling;
