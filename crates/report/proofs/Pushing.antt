@@ -1,8 +1,14 @@
 -- One line more.
-use Rattle.std.proofs.Common.{◌≡◌, ℕ, ◌+◌, ◌<◌, ◌≤◌, List, ◌++◌, length, get_or, drop, sym, ap, ◌∙◌, append_assoc, append-nil}
+use Rattle.std.proofs.Common.{◌≡◌, ℕ, ◌+◌, ◌<◌, ◌≤◌, List, [], ◌∷◌, ◌++◌, length, get_or, drop, Option, Some, None, IsSome, unwrap_or, codes, sym, ap, ◌∙◌, append_assoc, append-nil}
+use Rattle.std.specs.Fmt.{AppendsText, ◌++?◌}
 use Rattle.std.proofs.lemmas.List.{drop_more, drop_all}
 use Rattle.records.specs.declared.EquationRecord.{EquationRecord}
 use Rattle.report.specs.Lines.{equation_line, all_lines, equation_lines}
+
+-- a text that is known, and its line end, are added to what was there
+pub appended : (o : Option (List ℕ)) (old new : List ℕ) → IsSome o → AppendsText old new (o ++? Some (10 ∷ [])) → new ≡ old ++ (unwrap_or o [] ++ codes "\n")
+appended None old new known h = cc
+appended (Some text) old new known h = h
 
 module _ {X : Type 0} (line : X → List ℕ) (xs : List X) (i : ℕ) (whole out : List ℕ) (inv : out ++ all_lines line (drop i xs) ≡ whole) where
   pub lines_more : (x d : X) → i < length xs → x ≡ get_or xs i d → (more : List ℕ) → more ≡ line x → (out ++ more) ++ all_lines line (drop (i + 1) xs) ≡ whole
@@ -25,7 +31,3 @@ module _ (xs : List EquationRecord) (i : ℕ) (whole out : List ℕ) (inv : out 
   pub equations_all : length xs ≤ i → out ≡ whole
   unfolding equation_lines
   equations_all l = sym (append-nil out) ∙ ap (λ ys. out ++ equation_lines i ys) (sym (drop_all i xs l)) ∙ inv
-
--- what is added in turn stands in turn
-pub in_turn : (o o' a b : List ℕ) (out : List ℕ) → o' ≡ o ++ a → out ≡ o' ++ b → out ≡ o ++ (a ++ b)
-in_turn o o' a b out e f = f ∙ ap (λ x. x ++ b) e ∙ append_assoc o a b

@@ -6,36 +6,35 @@ use Rattle.records.specs.declared.Transition.{Transition}
 use Rattle.records.specs.declared.Divergence.{Divergence}
 use Rattle.records.specs.declared.Label.{Label}
 use Rattle.records.specs.declared.EquationRecord.{EquationRecord}
-use Rattle.fields.specs.Faults.{cause_number}
-use Rattle.lines.specs.Forms.{side_letter}
+use Rattle.records.specs.Spelling.{counts_text, transition_text, divergence_text, label_text}
 use Rattle.rulebook_text.specs.declared.equation.Rulebook.{Rulebook}
-use Rattle.job.specs.Parts.{part_number}
+use Rattle.rulebook_text.specs.Spelling.{rulebook_text}
+use Rattle.job.specs.Spelling.{fault_text}
 use Rattle.job.specs.declared.fault.JobFault.{JobFault}
 
 -- E,part,number,line,field
 abbrev pub fault_line : JobFault → List ℕ
-fault_line e =
-    codes "E," ++ (decimal (part_number e.part) ++ (codes "," ++ (decimal (cause_number e.fault.cause) ++ (codes "," ++ (decimal e.fault.line ++ (codes "," ++ (decimal e.fault.field ++ codes "\n")))))))
+fault_line e = fault_text e ++ codes "\n"
 
 -- F,states,actions,atoms
 abbrev pub counts_line : Counts → List ℕ
-counts_line n = codes "F," ++ (decimal n.states ++ (codes "," ++ (decimal n.actions ++ (codes "," ++ (decimal n.atoms ++ codes "\n")))))
+counts_line n = counts_text n ++ codes "\n"
 
--- T,s,a,t
+-- T,source,action,target
 abbrev pub transition_line : Transition → List ℕ
-transition_line x = codes "T," ++ (decimal x.source ++ (codes "," ++ (decimal x.action ++ (codes "," ++ (decimal x.target ++ codes "\n")))))
+transition_line x = transition_text x ++ codes "\n"
 
--- U,s,a
+-- U,state,action
 abbrev pub divergence_line : Divergence → List ℕ
-divergence_line x = codes "U," ++ (decimal x.state ++ (codes "," ++ (decimal x.action ++ codes "\n")))
+divergence_line x = divergence_text x ++ codes "\n"
 
--- P,p,s
+-- P,atom,state
 abbrev pub label_line : Label → List ℕ
-label_line x = codes "P," ++ (decimal x.atom ++ (codes "," ++ (decimal x.state ++ codes "\n")))
+label_line x = label_text x ++ codes "\n"
 
 -- R,side,n
 abbrev pub rulebook_line : Rulebook → List ℕ
-rulebook_line b = codes "R," ++ (encode (side_letter b.side) ++ (codes "," ++ (decimal b.equations ++ codes "\n")))
+rulebook_line b = rulebook_text b ++ codes "\n"
 
 -- Q,i,form,first,second
 abbrev pub equation_line : ℕ → EquationRecord → List ℕ

@@ -3,12 +3,13 @@ ghost use Rattle.flow_text.specs.Flows.{room};
 ghost use Rattle.report.specs.Answers.{Answers, AnswersWithin};
 ghost use Rattle.report.specs.Lines.{counts_line, transition_line, divergence_line, label_line, rulebook_line, all_lines, equation_lines};
 
-use crate::printing::{Printed, push_equations, push_lines};
+use crate::printing::{push_equations, push_lines};
 use flow_text::counts::Flow;
 use job::job::read_job;
 use records::{Counts, Divergence, EquationRecord, Label, Transition};
 use rulebook_text::equation::Rulebook;
 use std::alloc::{AllocError, Global};
+use std::fmt::Write;
 
 /// The lines of a flow.
 fn flow_account(
@@ -20,24 +21,23 @@ fn flow_account(
 ) -> Result<String, AllocError>
     ensures { IfOk result (λ s. string_bytes s ≡ counts_line counts ++ (all_lines transition_line transitions.now ++ (all_lines divergence_line divergences.now ++ all_lines label_line labels.now))) }
 {
-    let mut out = counts.line(heap)?;
-    push_lines(&mut out, heap, transitions)?;
-    push_lines(&mut out, heap, divergences)?;
-    push_lines(&mut out, heap, labels)?;
+    let mut out = format!(in heap; "{counts}\n")?;
+    push_lines(&mut out, transitions)?;
+    push_lines(&mut out, divergences)?;
+    push_lines(&mut out, labels)?;
     Ok(out)
 }
 
 /// Adds the lines of a rulebook.
 fn push_rulebook(
     out: &mut String,
-    heap: Global,
     book: Rulebook,
     equations: &[EquationRecord],
 ) -> Result<(), AllocError>
     ensures { OnOk result (string_bytes out.new ≡ string_bytes out.old ++ (rulebook_line book ++ equation_lines 0 equations.now)) }
 {
-    out.push_str(book.line(heap)?.as_str())?;
-    push_equations(out, heap, equations)
+    writeln!(out, "{book}")?;
+    push_equations(out, equations)
 }
 
 /// The same with lists that the caller lends.
@@ -52,7 +52,7 @@ pub fn answer_with(
     ensures { IfOk result (λ s. AnswersWithin (room (length transitions.old) (length divergences.old) (length labels.old)) (length equations.old) job.now (string_bytes s)) }
 {
     match read_job(job, transitions, divergences, labels, equations) {
-        Err(fault) => fault.line(heap),
+        Err(fault) => format!(in heap; "{fault}\n"),
         Ok((flow, book)) => {
             let Flow {
                 counts,
@@ -68,7 +68,7 @@ pub fn answer_with(
                 &divergences[0..u],
                 &labels[0..p],
             )?;
-            push_rulebook(&mut out, heap, book, &equations[0..n])?;
+            push_rulebook(&mut out, book, &equations[0..n])?;
             Ok(out)
         }
     }

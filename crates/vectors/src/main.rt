@@ -90,10 +90,10 @@ fn case_answer(heap: Global, job: &[u8], lengths: Lengths) -> Result<String, All
         &mut equations,
     )?;
     if out.as_bytes().first() == Some(&b'E') {
-        push_lines(&mut out, heap, used(&transitions, transition))?;
-        push_lines(&mut out, heap, used(&divergences, divergence))?;
-        push_lines(&mut out, heap, used(&labels, label))?;
-        push_equations(&mut out, heap, used(&equations, equation))?;
+        push_lines(&mut out, used(&transitions, transition))?;
+        push_lines(&mut out, used(&divergences, divergence))?;
+        push_lines(&mut out, used(&labels, label))?;
+        push_equations(&mut out, used(&equations, equation))?;
     }
     out.push_str(".\n")?;
     Ok(out)

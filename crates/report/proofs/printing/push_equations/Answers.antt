@@ -5,10 +5,10 @@ use Rattle.report.proofs.printing.push_equations.Goals as goal
 
 pub loop-i-preserved : goal.loop-i-preserved
 loop-i-preserved c =
-    let i = c.loop-i.i in
+    let i = c.loop-i.i-counter in
     let rest = equation_lines (i + 1) (drop (i + 1) c.args.items.now) in
-    ap (λ (b : List ℕ). b ++ rest) c.in_ok-push_str.ensures.bytes
-    ∙ equations_more c.args.items.now i _ _ c.loop-i.invariant _ (record { form = 0; first = 0; second = 0 }) (omega arith) refl c.as_str.result.now (c.as_str.ensures.value ∙ c.in_ok-equation_line.ensures)
+    ap (λ (b : List ℕ). b ++ rest) c.in_ok-writeln.ensures.bytes
+    ∙ equations_more c.args.items.now i _ _ c.loop-i.invariant _ (record { form = 0; first = 0; second = 0 }) (omega arith) refl _ refl
 
 pub returns : goal.returns
-returns c = equations_all _ c.loop-i.i _ _ c.loop-i.invariant (omega arith)
+returns c = equations_all _ c.loop-i.i-counter _ _ c.loop-i.invariant (omega arith)
