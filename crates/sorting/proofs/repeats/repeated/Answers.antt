@@ -1,8 +1,8 @@
-use Rattle.std.proofs.Common.{◌+◌, cond, length, Some, None, sym, ap, ◌∙◌, arith}
+use Rattle.std.proofs.Common.{◌+◌, cond, length, Some, None, sym, refl, ap, ◌∙◌, arith}
 use Rattle.sorting.specs.Sorting.{key_of, before, found, row}
 use Rattle.sorting.specs.Repetition.{repeats}
 use Rattle.sorting.proofs.Sorts.{zeros, before_few}
-use Rattle.sorting.proofs.Starts.{start_before, row_hits}
+use Rattle.sorting.proofs.Starts.{start_before, row_hits, rows_rise}
 use Rattle.sorting.proofs.Twins.{rows_tell, small_parts}
 use Rattle.sorting.proofs.repeats.repeated.Goals as goal
 
@@ -15,7 +15,8 @@ some_row_repeats-requires c =
     let fine = small_parts ps (sym c.if-not-all_small.ensures) in
     record {
       few = omega (arith, c.sort_into.auto.ends);
-      inside = λ i h. omega (arith, c.sort_into.ensures.ends i h, before_few (key_of ps) (length ps) (i + 1), fine.0, c.sort_into.auto.items);
+      rising = rows_rise (key_of ps) (length ps) c.sort_into.new.ends _ c.sort_into.ensures.ends_at refl;
+      inside = λ i h. omega (arith, c.sort_into.ensures.ends_at i h, before_few (key_of ps) (length ps) (i + 1), fine.0, c.sort_into.auto.items);
       under = c.sort_into.ensures.under 65536 (λ k h. omega (arith, zeros 2048 k)) (λ k h. (fine.1 k h).1);
     }
 
@@ -27,9 +28,9 @@ returns c =
     let ends = c.sort_into.new.ends in
     let items = c.sort_into.new.items in
     let n = length ends in
-    let at = c.sort_into.ensures.ends in
+    let at = c.sort_into.ensures.ends_at in
     let fine = small_parts ps (sym c.if-not-all_small.ensures) in
     let tell = rows_tell ps ends items (λ k h. omega (arith, (fine.1 k h).0, c.sort_into.auto.ends))
     (λ i s h. ap (λ b. found items b (row ends i) s) (start_before key m ends n at i (omega arith)) ∙
-    ap (λ r. found items (before key m i) r s) (row_hits key m ends n at i h) ∙ c.sort_into.ensures.rows i s h) in
+    ap (λ r. found items (before key m i) r s) (row_hits key m ends n at i h) ∙ c.sort_into.ensures.found_in i s h) in
     ap (λ b. Some b) (c.some_row_repeats.ensures ∙ tell) ∙ ap (λ b. cond b (Some (repeats ps)) None) c.if-not-all_small.ensures
