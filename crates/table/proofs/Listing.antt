@@ -1,7 +1,8 @@
 -- Lists of records: a test of each, of some, and of two that are the same.
-use Rattle.std.proofs.Common.{◌≡◌, ℕ, zero, suc, ◌+◌, ◌<◌, ◌≤◌, Bool, true, false, ◌||◌, ◌⊎◌, List, [], ◌∷◌, ◌++◌, length, get_or, take, sym, refl, ap, ◌∙◌, subst, inl, inr, ⊎_elim, le_of_suc-le-suc, not-suc-le-zero, add-one, arith, take_all}
+use Rattle.std.proofs.Common.{◌≡◌, ℕ, zero, suc, ◌+◌, ◌<◌, ◌≤◌, Bool, true, false, ◌&&◌, ◌||◌, ◌⊎◌, List, [], ◌∷◌, ◌++◌, length, get_or, take, sym, refl, ap, ◌∙◌, subst, inl, inr, ⊎_elim, le_of_suc-le-suc, not-suc-le-zero, add-one, arith, take_all}
+use Rattle.std.specs.List.{list_all}
 use lib.Seq.{take-append-le}
-use Rattle.std.proofs.lemmas.Bool.{and_parts, and_from, or_cases, or_left, or_right, both_ways, cases_Bool, cases_lt}
+use Rattle.std.proofs.lemmas.Bool.{and_parts, or_cases, or_left, or_right, both_ways, cases_lt}
 use Rattle.semantics.proofs.Bools.{same_bool}
 use Rattle.table.specs.Records.{has, each, repeated}
 
@@ -30,14 +31,10 @@ each_at test [] e k d h = absurd (not-suc-le-zero h)
 each_at test (x ∷ xs) e zero d h = (and_parts (test x) (each test xs) e).0
 each_at test (x ∷ xs) e (suc k) d h = each_at test xs (and_parts (test x) (each test xs) e).1 k d (le_of_suc-le-suc h)
 
-pub each_from : {X : Type 0} (test : X → Bool) (xs : List X) → ((k : ℕ) (d : X) → k < length xs → test (get_or xs k d) ≡ true) → each test xs ≡ true
+pub each_is : {X : Type 0} (test : X → Bool) (xs : List X) → list_all test xs ≡ each test xs
 unfolding each
-each_from test [] f = refl
-each_from test (x ∷ xs) f = and_from (test x) (each test xs) (f 0 x (omega arith)) (each_from test xs (λ k d h. f (suc k) d (omega arith)))
-
-pub each_fails : {X : Type 0} (test : X → Bool) (xs : List X) (k : ℕ) (x : X) → k < length xs → x ≡ get_or xs k x → test x ≡ false → each test xs ≡ false
-each_fails test xs k x h is e =
-    ⊎_elim (λ (q : each test xs ≡ true). absurd (both_ways (test x) e (ap test is ∙ each_at test xs q k x h))) (λ (q : each test xs ≡ false). q) (cases_Bool (each test xs))
+each_is test [] = refl
+each_is test (x ∷ xs) = ap (λ b. test x && b) (each_is test xs)
 
 -- has
 
