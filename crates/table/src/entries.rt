@@ -91,7 +91,7 @@ pub(crate) fn repeats<E: Entry>(entries: &[E]) -> bool
     ensures { result ≡ repeated_in (λ x y. (E.Entry.key x == E.Entry.key y) && E.Entry.value x == E.Entry.value y) entries.now }
 {
     let mut pairs = [(0, 0); 2048];
-    // by index: a proof knows no element after a zip of `iter_mut`
+    // by index, since a proof knows no element after a zip of `iter_mut`
     for (k, entry) in entries.iter().enumerate() {
         pairs[k] = entry.pair();
     }
@@ -104,6 +104,7 @@ fn note<E: Entry>(entries: &[E], sets: &mut [SmallSet])
 {
     for entry in entries {
         let (key, value) = entry.pair();
+        // by index, since a proof knows no element of a slice after `get_mut`
         if key < sets.len() {
             sets[key] = sets[key].with(value);
         }

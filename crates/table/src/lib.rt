@@ -28,6 +28,7 @@ pub struct Table {
     rows: Rows,
     /// the out-degree of s on a, at a × n + s
     degrees: Vec<usize>,
+    // two lists of sets, since each is made by `noted` from records of its own
     /// for each state, the actions on which it is divergent
     gaps: Vec<SmallSet>,
     /// for each state, the atoms that hold
@@ -91,14 +92,14 @@ impl Table {
         records.check()?;
         Ok(build(heap, &records)?)
     }
-}
 
-/// The place of action `a` and state `s`, where there is one.
-fn place(counts: Counts, a: usize, s: usize) -> Option<usize>
-    ensures { result ≡ place_of counts.states counts.actions a s }
-{
-    let states = usize::from(counts.states);
-    (a < usize::from(counts.actions) && s < states).then(|| a * states + s)
+    /// The place of action `a` and state `s`, where there is one.
+    fn place(&self, a: usize, s: usize) -> Option<usize>
+        ensures { result ≡ place_of self.now.counts.states self.now.counts.actions a s }
+    {
+        let states = usize::from(self.counts.states);
+        (a < usize::from(self.counts.actions) && s < states).then(|| a * states + s)
+    }
 }
 
 /// Whether set `s` has `i`, below `most`.
@@ -139,14 +140,14 @@ impl Source for Table {
     }
 
     fn out_degree(&self, s: usize, a: usize) -> usize {
-        place(self.counts, a, s)
+        self.place(a, s)
             .and_then(|i| self.degrees.get(i))
             .copied()
             .unwrap_or(0)
     }
 
     fn in_degree(&self, t: usize, a: usize) -> usize {
-        place(self.counts, a, t).map_or(0, |i| self.rows.row(i).len())
+        self.place(a, t).map_or(0, |i| self.rows.row(i).len())
     }
 
     fn transitions(&self, a: usize) -> usize {
@@ -162,7 +163,7 @@ impl Source for Table {
     }
 
     fn predecessor(&self, t: usize, a: usize, k: usize) -> Option<usize> {
-        let i = place(self.counts, a, t)?;
+        let i = self.place(a, t)?;
         self.rows.row(i).get(k).copied()
     }
 }
