@@ -6,19 +6,26 @@ use Rattle.sorting.proofs.Starts.{start_before, row_hits, rows_rise}
 use Rattle.sorting.proofs.Twins.{rows_tell, small_parts}
 use Rattle.sorting.proofs.repeats.repeated.Goals as goal
 
-pub sort_into-requires : goal.sort_into-requires
-sort_into-requires c = record { clear = λ i h. zeros 1024 i; room = (small_parts c.args.pairs.now (sym c.if-not-all_small.ensures)).0 }
+pub sort_into-requires-clause-clear : goal.sort_into-requires-clause-clear
+sort_into-requires-clause-clear c = λ i h. zeros 1024 i
 
-pub some_row_repeats-requires : goal.some_row_repeats-requires
-some_row_repeats-requires c =
+pub sort_into-requires-clause-room : goal.sort_into-requires-clause-room
+sort_into-requires-clause-room c = (small_parts c.args.pairs.now (sym c.if-not-all_small.ensures)).0
+
+pub some_row_repeats-requires-clause-rising : goal.some_row_repeats-requires-clause-rising
+some_row_repeats-requires-clause-rising c =
+    rows_rise (key_of c.args.pairs.now) (length c.args.pairs.now) c.sort_into.new.ends _ c.sort_into.ensures.ends_at refl
+
+pub some_row_repeats-requires-clause-inside : goal.some_row_repeats-requires-clause-inside
+some_row_repeats-requires-clause-inside c = λ i h.
     let ps = c.args.pairs.now in
     let fine = small_parts ps (sym c.if-not-all_small.ensures) in
-    record {
-      few = omega (arith, c.sort_into.auto.ends);
-      rising = rows_rise (key_of ps) (length ps) c.sort_into.new.ends _ c.sort_into.ensures.ends_at refl;
-      inside = λ i h. omega (arith, c.sort_into.ensures.ends_at i h, before_few (key_of ps) (length ps) (i + 1), fine.0, c.sort_into.auto.items);
-      under = c.sort_into.ensures.under 65536 (λ k h. omega (arith, zeros 2048 k)) (λ k h. (fine.1 k h).1);
-    }
+    omega (arith, c.sort_into.ensures.ends_at i h, before_few (key_of ps) (length ps) (i + 1), fine.0, c.sort_into.auto.items)
+
+pub some_row_repeats-requires-clause-under : goal.some_row_repeats-requires-clause-under
+some_row_repeats-requires-clause-under c =
+    let fine = small_parts c.args.pairs.now (sym c.if-not-all_small.ensures) in
+    c.sort_into.ensures.under 65536 (λ k h. omega (arith, zeros 2048 k)) (λ k h. (fine.1 k h).1)
 
 pub returns : goal.returns
 returns c =

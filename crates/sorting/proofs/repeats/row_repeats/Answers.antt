@@ -7,21 +7,12 @@ use Rattle.sorting.proofs.repeats.row_repeats.Goals as goal
 pub loop-v-init : goal.loop-v-init
 loop-v-init c = stamped_none c.args.row.now 0 c.args.stamps.now c.args.stamp c.requires.older
 
-pub returns-then-stamps-v : goal.returns-then-stamps-v
-returns-then-stamps-v c = record {
-  exact = sym (hit_at c.args.row.now c.loop-v.v-index c.loop-v.stamps c.args.stamp c.loop-v-test.true c.loop-v.invariant
-      (omega (arith, c.requires.under c.loop-v.v-index c.loop-v-test.true)) c.if-stamps-v.true);
-  stamped = λ e. absurd (true≢false e);
-}
+pub returns-then-stamps-v-clause-exact : goal.returns-then-stamps-v-clause-exact
+returns-then-stamps-v-clause-exact c =
+    sym (hit_at c.args.row.now c.loop-v.v-index c.loop-v.stamps c.args.stamp c.loop-v-test.true c.loop-v.invariant
+    (omega (arith, c.requires.under c.loop-v.v-index c.loop-v-test.true)) c.if-stamps-v.true)
 
 pub loop-v-preserved : goal.loop-v-preserved
 loop-v-preserved c =
     stamped_at c.args.row.now c.loop-v.v-index c.loop-v.stamps c.args.stamp c.loop-v.invariant
     (omega (arith, c.requires.under c.loop-v.v-index c.loop-v-test.true)) c.if-stamps-v.false
-
-pub returns : goal.returns
-returns c =
-    record {
-      exact = sym (ap (twice c.args.row.now 0) (omega arith) ∙ c.loop-v.invariant.differ);
-      stamped = λ _. c.loop-v.invariant.most;
-    }

@@ -22,8 +22,3 @@ loop-entry-preserved g c = λ s i h.
           note_skip g.E.Entry.key g.E.Entry.value xs c.loop-entry.entry-index x c.loop-entry-test.true c.entry-item.is c.args.sets.now c.loop-entry.sets
           c.pair-key.result.0 c.pair-key.ensures.0 c.loop-entry.invariant w.if-key-sets.false s i l
     ]
-
-pub returns : goal.returns
-returns g c = λ s i h.
-    c.loop-entry.invariant s i h ∙
-    ap (λ xs. member (get_or c.args.sets.now s empty_set) i || (ltb i 64 && has (λ x. eqb (g.E.Entry.key x) s && eqb (g.E.Entry.value x) i) xs)) (take_all c.loop-entry.entry-index c.args.entries.now (omega arith))
