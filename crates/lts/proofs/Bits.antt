@@ -61,10 +61,3 @@ or_bit m a h b =
 -- the bits of a number with one more bit, below 64
 pub with_bit : (m a : ℕ) → a < 64 → (b : ℕ) → bit (bit_or m ((1 * 2 ^ a) % 2 ^ 64)) b ≡ (bit m b || (ltb a 64 && eqb b a))
 with_bit m a h b = or_bit m a h b ∙ ap (λ t. bit m b || (t && eqb b a)) (sym (lt-ltb a 64 h))
-
-pub without_bit : (m a : ℕ) → 64 ≤ a → (b : ℕ) → bit m b ≡ (bit m b || (ltb a 64 && eqb b a))
-without_bit m a h b = same (bit m b) ∙ ap (λ t. bit m b || (t && eqb b a)) (sym (le-ltb a 64 h))
-  where
-    same : (x : Bool) → x ≡ (x || false)
-    same true = refl
-    same false = refl

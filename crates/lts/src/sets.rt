@@ -53,11 +53,6 @@ impl SmallSet {
     pub fn all_below(self, n: usize) -> bool
         ensures { result ≡ all_below self n }
     {
-        for i in 0..64 {
-            if self.has(i) && i >= n {
-                return false;
-            }
-        }
-        true
+        (0..64).all(|i| !self.has(i) || i < n)
     }
 }

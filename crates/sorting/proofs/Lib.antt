@@ -2,3 +2,4 @@ pub mod Sorts
 pub mod Starts
 mod Stamps
 mod Twins
+pub mod Listed

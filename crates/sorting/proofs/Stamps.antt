@@ -1,5 +1,5 @@
 -- The numbers of a row, stamped one after the other.
-use Rattle.std.proofs.Common.{◌≡◌, ℕ, ◌+◌, ◌-◌, ◌<◌, ◌≤◌, true, false, ◌||◌, eqb, List, length, get_or, set, sym, ap, ◌∙◌, subst, ⊎_elim, arith, length-set}
+use Rattle.std.proofs.Common.{◌≡◌, ℕ, ◌+◌, ◌<◌, ◌≤◌, true, false, ◌||◌, eqb, List, length, get_or, set, sym, ap, ◌∙◌, subst, ⊎_elim, arith, length-set}
 use Rattle.std.proofs.lemmas.List.{get_or-set_same, get_or-set_other}
 use Rattle.std.proofs.lemmas.Bool.{cases_eq, cases_lt, eq-eqb, ne_eqb, or_left, or_right}
 use Rattle.semantics.specs.Lts.{some}
@@ -13,6 +13,9 @@ pub record Stamped (items : List ℕ) (b c : ℕ) (stamps : List ℕ) (stamp : �
   pub marked : (k : ℕ) → k < c → get_or stamps (get_or items (b + k) 0) 0 ≡ stamp
   pub seen : (v : ℕ) → v < length stamps → get_or stamps v 0 ≡ stamp → some c (λ k. eqb (get_or items (b + k) 0) v) ≡ true
   pub differ : twice items b c ≡ false
+
+front : (row : List ℕ) (p : ℕ) → get_or row (0 + p) 0 ≡ get_or row p 0
+front row p = ap (λ k. get_or row k 0) (let e : 0 + p ≡ p = omega arith in e)
 
 twice_none : (items : List ℕ) (b : ℕ) → twice items b 0 ≡ false
 unfolding twice
@@ -72,19 +75,14 @@ unfolding twice
 stamped_hit items b c n stamps stamp before less within e =
     some_from n c (λ j. some j (λ k. eqb (get_or items (b + k) 0) (get_or items (b + j) 0))) less (before.seen (get_or items (b + c) 0) within e)
 
--- the same at place p of the list
-pub stamped_at : (items : List ℕ) (from p : ℕ) (stamps : List ℕ) (stamp : ℕ) → from ≤ p → Stamped items from (p - from) stamps stamp →
-    get_or items p 0 < length stamps → (get_or stamps (get_or items p 0) 0 ≡ stamp → ⊥) → Stamped items from (p + 1 - from) (set stamps (get_or items p 0) stamp) stamp
-stamped_at items from p stamps stamp h before within fresh =
-    let e : from + (p - from) ≡ p = omega arith in
-    let d : p - from + 1 ≡ p + 1 - from = omega arith in
-    let x : get_or items (from + (p - from)) 0 ≡ get_or items p 0 = ap (λ k. get_or items k 0) e in
-    subst (λ (v : ℕ). Stamped items from (p + 1 - from) (set stamps v stamp) stamp) x
-    (subst (λ (c : ℕ). Stamped items from c (set stamps (get_or items (from + (p - from)) 0) stamp) stamp) d
-    (stamped_more items from (p - from) stamps stamp before (omega arith) (λ q. fresh (ap (λ v. get_or stamps v 0) (sym x) ∙ q))))
+-- the same of a whole list, at place p
+pub stamped_at : (row : List ℕ) (p : ℕ) (stamps : List ℕ) (stamp : ℕ) → Stamped row 0 p stamps stamp →
+    get_or row p 0 < length stamps → (get_or stamps (get_or row p 0) 0 ≡ stamp → ⊥) → Stamped row 0 (p + 1) (set stamps (get_or row p 0) stamp) stamp
+stamped_at row p stamps stamp before within fresh =
+    subst (λ (v : ℕ). Stamped row 0 (p + 1) (set stamps v stamp) stamp) (front row p)
+    (stamped_more row 0 p stamps stamp before (omega (arith, front row p)) (λ q. fresh (ap (λ v. get_or stamps v 0) (sym (front row p)) ∙ q)))
 
-pub hit_at : (items : List ℕ) (from p to : ℕ) (stamps : List ℕ) (stamp : ℕ) → from ≤ p → p < to → Stamped items from (p - from) stamps stamp →
-    get_or items p 0 < length stamps → get_or stamps (get_or items p 0) 0 ≡ stamp → twice items from (to - from) ≡ true
-hit_at items from p to stamps stamp h less before within e =
-    let x : get_or items (from + (p - from)) 0 ≡ get_or items p 0 = ap (λ k. get_or items k 0) (let e : from + (p - from) ≡ p = omega arith in e) in
-    stamped_hit items from (p - from) (to - from) stamps stamp before (omega arith) (omega arith) (ap (λ v. get_or stamps v 0) x ∙ e)
+pub hit_at : (row : List ℕ) (p : ℕ) (stamps : List ℕ) (stamp : ℕ) → p < length row → Stamped row 0 p stamps stamp →
+    get_or row p 0 < length stamps → get_or stamps (get_or row p 0) 0 ≡ stamp → twice row 0 (length row) ≡ true
+hit_at row p stamps stamp less before within e =
+    stamped_hit row 0 p (length row) stamps stamp before less (omega (arith, front row p)) (ap (λ v. get_or stamps v 0) (front row p) ∙ e)

@@ -1,5 +1,5 @@
-ghost use Rattle.std.specs.Prelude.{◌≡◌, ℕ, ◌-◌, ◌<◌, ◌≤◌, false, length, slice_index};
-ghost use Rattle.sorting.specs.Sorting.{Under};
+ghost use Rattle.std.specs.Prelude.{◌≡◌, ℕ, ◌<◌, ◌≤◌, false, length, slice_index};
+ghost use Rattle.sorting.specs.Sorting.{Under, Rising, Inside};
 ghost use Rattle.sorting.specs.Repetition.{small, twice, some_twice, repeated_answer};
 
 use crate::sort_into;
@@ -8,33 +8,24 @@ use crate::sort_into;
 fn all_small(pairs: &[(usize, usize)]) -> bool
     ensures { result ≡ small pairs.now }
 {
-    if pairs.len() > 2048 {
-        return false;
-    }
-    for k in 0..pairs.len() {
-        let (key, value) = pairs[k];
-        let fits = (key < 1024) & (value < 65536);
-        if !fits {
-            return false;
-        }
-    }
-    true
+    pairs.len() <= 2048
+        && pairs
+            .iter()
+            .all(|(key, value)| *key < 1024 && *value < 65536)
 }
 
 /// Whether a row has a number twice. Each number of the row is stamped as it comes.
-fn row_repeats(items: &[usize], from: usize, to: usize, stamps: &mut [u16], stamp: u16) -> bool
-    requires inside { to ≤ length items.now }
-    requires under { Under (length stamps.old) items.now }
+fn row_repeats(row: &[usize], stamps: &mut [u16], stamp: u16) -> bool
+    requires under { Under (length stamps.old) row.now }
     requires older { Under stamp stamps.old }
-    ensures exact { result ≡ twice items.now from (to - from) }
+    ensures exact { result ≡ twice row.now 0 (length row.now) }
     ensures stamped { result ≡ false → (v : ℕ) → v < length stamps.new → slice_index stamps.new v ≤ stamp }
 {
-    for p in from..to {
-        let v = items[p];
-        if stamps[v] == stamp {
+    for v in row {
+        if stamps[*v] == stamp {
             return true;
         }
-        stamps[v] = stamp;
+        stamps[*v] = stamp;
     }
     false
 }
@@ -42,20 +33,20 @@ fn row_repeats(items: &[usize], from: usize, to: usize, stamps: &mut [u16], stam
 /// Whether some row has a number twice: row by row, with a stamp for each.
 fn some_row_repeats(ends: &[usize], items: &[usize]) -> bool
     requires few { length ends.now ≤ 1024 }
-    requires inside { (i : ℕ) → i < length ends.now → slice_index ends.now i ≤ length items.now }
+    requires rising { Rising ends.now }
+    requires inside { Inside ends.now items.now }
     requires under { Under 65536 items.now }
     ensures { result ≡ some_twice ends.now items.now }
 {
     let mut stamps = [0u16; 65536];
     let mut stamp: u16 = 0;
     let mut from = 0;
-    for i in 0..ends.len() {
+    for to in ends {
         stamp += 1;
-        let to = ends[i];
-        if row_repeats(items, from, to, &mut stamps, stamp) {
+        if row_repeats(&items[from..*to], &mut stamps, stamp) {
             return true;
         }
-        from = to;
+        from = *to;
     }
     false
 }

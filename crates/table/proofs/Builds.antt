@@ -1,7 +1,9 @@
 -- The lists of a table are made from its records.
-use Rattle.std.proofs.Common.{◌≡◌, ℕ, ◌+◌, ◌*◌, ◌/◌, ◌%◌, ◌<◌, ◌≤◌, Bool, true, false, cond, ◌&&◌, eqb, ltb, List, length, get_or, sym, refl, ap, ◌∙◌, ap₂, mul-zero, zero-mul, mul-one, arith}
+use Rattle.std.proofs.Common.{◌≡◌, ℕ, ◌+◌, ◌*◌, ◌/◌, ◌%◌, ◌<◌, ◌≤◌, Bool, true, false, cond, ◌&&◌, eqb, ltb, List, length, get_or, map, sym, refl, ap, ◌∙◌, ap₂, mul-zero, zero-mul, mul-one, arith}
 use Rattle.std.proofs.lemmas.Nat.{div-mul-add, mod-mul-add, div-add-mod'}
 use Rattle.std.proofs.lemmas.Bool.{and_parts, and_from, lt-ltb, ltb-true, eqb-true, eq-eqb, both_ways}
+use Rattle.std.proofs.lemmas.List.{get_or-map}
+use lib.ListN.{length-map}
 use Rattle.records.specs.declared.Counts.{Counts}
 use Rattle.records.specs.declared.Transition.{Transition}
 use Rattle.semantics.specs.Lts.{sum, one}
@@ -9,12 +11,11 @@ use Rattle.semantics.proofs.Sums.{sum_eq, sum_swap, sum_single}
 use Rattle.semantics.proofs.Counting.{one_is, one_not}
 use Rattle.semantics.proofs.Places.{one_place, place_below, row_below, column_below}
 use Rattle.lts.specs.declared.sets.SmallSet.{SmallSet}
-use Rattle.sorting.specs.Sorting.{key_of, value_of, hits, before, pairs, found, start, row, Under, Counted, Sorted}
-use Rattle.sorting.proofs.Sorts.{before_next, before_all}
-use Rattle.sorting.proofs.Starts.{start_before, row_hits}
+use Rattle.sorting.specs.Sorting.{key_of, value_of, hits, before, pairs, found, start, row, Rising, Under, Counted, Sorted}
+use Rattle.sorting.proofs.Sorts.{before_all}
+use Rattle.sorting.proofs.Starts.{start_before, row_hits, rows_rise}
 use Rattle.table.specs.Records.{has, each, repeated, is_transition, same_transition, transition_inside}
-use Rattle.table.specs.TableAnswers.{held_transitions, Rising, Leaving, Stored, zero_transition, pair_by}
-use Rattle.table.specs.declared.build.End.TheVariants.{Target, Source}
+use Rattle.table.specs.TableAnswers.{held_transitions, Leaving, Stored, zero_transition, arrival, departure}
 use Rattle.table.proofs.Listing.{each_at, repeated_from}
 use Rattle.table.proofs.Once.{count_once}
 
@@ -70,9 +71,7 @@ inside_at c ts e k h =
     (ltb-true x.source c.states b.0, ltb-true x.action c.actions b.1, ltb-true x.target c.states d.1)
 
 module _ (c : Counts) (ts : List Transition) (inside : each (transition_inside c) ts ≡ true) (arrivals departures : List (ℕ × ℕ)) (ends sources degrees : List ℕ)
-    (lenA : length arrivals ≡ length ts) (lenD : length departures ≡ length ts)
-    (arrive : (k : ℕ) → k < length ts → get_or arrivals k (0, 0) ≡ pair_by Target c.states (get_or ts k zero_transition))
-    (depart : (k : ℕ) → k < length ts → get_or departures k (0, 0) ≡ pair_by Source c.states (get_or ts k zero_transition))
+    (arrived : arrivals ≡ map (arrival c.states) ts) (departed : departures ≡ map (departure c.states) ts)
     (sorted : Sorted arrivals (c.actions * c.states) ends sources)
     (counted : Counted departures (c.actions * c.states) degrees) where
   abbrev n : ℕ
@@ -87,6 +86,18 @@ module _ (c : Counts) (ts : List Transition) (inside : each (transition_inside c
   abbrev m : ℕ
   m = length arrivals
 
+  lenA : length arrivals ≡ length ts
+  lenA = ap length arrived ∙ length-map ts (arrival n)
+
+  lenD : length departures ≡ length ts
+  lenD = ap length departed ∙ length-map ts (departure n)
+
+  arrive : (k : ℕ) → k < length ts → get_or arrivals k (0, 0) ≡ arrival n (t_of k)
+  arrive k h = ap (λ xs. get_or xs k (0, 0)) arrived ∙ get_or-map (arrival n) ts k zero_transition (0, 0) h
+
+  depart : (k : ℕ) → k < length ts → get_or departures k (0, 0) ≡ departure n (t_of k)
+  depart k h = ap (λ xs. get_or xs k (0, 0)) departed ∙ get_or-map (departure n) ts k zero_transition (0, 0) h
+
   key_is : (k : ℕ) → k < length ts → key_of arrivals k ≡ (t_of k).action * n + (t_of k).target
   key_is k h = ap (λ (p : ℕ × ℕ). p.0) (arrive k h)
 
@@ -98,7 +109,7 @@ module _ (c : Counts) (ts : List Transition) (inside : each (transition_inside c
 
   keys_under : (k : ℕ) → k < m → key_of arrivals k < actions * n
   keys_under k h =
-      let l : k < length ts = omega arith in
+      let l : k < length ts = omega (arith, lenA) in
       let d = inside_at c ts inside k l in
       omega (arith, key_is k l, place_below (t_of k).action (t_of k).target actions n d.1 d.2)
 
@@ -109,17 +120,15 @@ module _ (c : Counts) (ts : List Transition) (inside : each (transition_inside c
   row_is = row_hits (key_of arrivals) m ends (actions * n) sorted.ends_at
 
   built_rising : Rising ends
-  built_rising i h =
-      let l : i < actions * n = omega (arith, sorted.rows) in
-      omega (arith, sorted.ends_at i l, start_is i (omega arith), before_next (key_of arrivals) m i)
+  built_rising = rows_rise (key_of arrivals) m ends (actions * n) sorted.ends_at sorted.rows
 
   built_whole : start ends (actions * n) ≡ length sources
   built_whole = start_is (actions * n) (omega arith) ∙ before_all (key_of arrivals) m (actions * n) keys_under ∙ sym sorted.room
 
   built_named : Under n sources
   built_named = λ k h.
-      let pos : 0 < length ts = omega (arith, sorted.room) in
-      sorted.under n (omega (arith, (inside_at c ts inside 0 pos).0)) (λ j l. let q : j < length ts = omega arith in omega (arith, value_is j q, (inside_at c ts inside j q).0)) k h
+      let pos : 0 < length ts = omega (arith, sorted.room, lenA) in
+      sorted.under n (omega (arith, (inside_at c ts inside 0 pos).0)) (λ j l. let q : j < length ts = omega (arith, lenA) in omega (arith, value_is j q, (inside_at c ts inside j q).0)) k h
 
   pairs_listed : (s a t : ℕ) → t < n → pairs (key_of arrivals) (value_of arrivals) (a * n + t) s m ≡ listed ts s a t
   unfolding pairs listed
@@ -178,7 +187,7 @@ module _ (c : Counts) (ts : List Transition) (inside : each (transition_inside c
     rows = sorted.rows;
     rising = built_rising;
     whole = built_whole;
-    few_transitions = omega (arith, sorted.room);
+    few_transitions = omega (arith, sorted.room, lenA);
     named = built_named;
     places = counted.size;
     leaving = built_leaving;

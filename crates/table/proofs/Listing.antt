@@ -1,26 +1,10 @@
 -- Lists of records: a test of each, of some, and of two that are the same.
-use Rattle.std.proofs.Common.{◌≡◌, ℕ, zero, suc, ◌+◌, ◌<◌, ◌≤◌, Bool, true, false, ◌||◌, ◌⊎◌, List, [], ◌∷◌, ◌++◌, length, get_or, take, sym, refl, ap, ◌∙◌, subst, inl, inr, ⊎_elim, le_of_suc-le-suc, not-suc-le-zero, add-one, arith, take_all}
-use lib.Seq.{take-append-le}
-use Rattle.std.proofs.lemmas.Bool.{and_parts, and_from, or_cases, or_left, or_right, both_ways, cases_Bool, cases_lt}
+use Rattle.std.proofs.Common.{◌≡◌, ℕ, zero, suc, ◌+◌, ◌<◌, ◌≤◌, Bool, true, false, ◌&&◌, ◌||◌, ◌⊎◌, List, [], ◌∷◌, length, get_or, take, sym, refl, ap, ◌∙◌, subst, inl, inr, ⊎_elim, le_of_suc-le-suc, not-suc-le-zero, add-one, arith}
+use Rattle.std.specs.List.{list_all}
+use Rattle.std.proofs.lemmas.List.{get_or_default}
+use Rattle.std.proofs.lemmas.Bool.{and_parts, or_cases, or_left, or_right, both_ways, cases_lt}
 use Rattle.semantics.proofs.Bools.{same_bool}
 use Rattle.table.specs.Records.{has, each, repeated}
-
--- what stands in a list, whatever is taken for its end
-pub same_item : {X : Type 0} (xs : List X) (k : ℕ) (d e : X) → k < length xs → get_or xs k d ≡ get_or xs k e
-same_item [] k d e h = absurd (not-suc-le-zero h)
-same_item (x ∷ xs) zero d e h = refl
-same_item (x ∷ xs) (suc k) d e h = same_item xs k d e (le_of_suc-le-suc h)
-
--- what holds of the first k records, and of the next
-pub items_more : {X : Type 0} (P : ℕ → X → Type 0) (xs : List X) (k : ℕ) (x : X) → k < length xs → x ≡ get_or xs k x →
-    ((i : ℕ) (d : X) → i < k → P i (get_or xs i d)) → P k x → (i : ℕ) (d : X) → i < k + 1 → P i (get_or xs i d)
-items_more P xs k x h is below here i d l =
-    ⊎_elim
-    (λ (m : i < k). below i d m)
-    (λ (m : k ≤ i).
-    let e : k ≡ i = omega arith in
-    subst (λ j. P j (get_or xs j d)) e (subst (P k) (is ∙ same_item xs k x d h) here))
-    (cases_lt i k)
 
 -- each
 
@@ -30,14 +14,10 @@ each_at test [] e k d h = absurd (not-suc-le-zero h)
 each_at test (x ∷ xs) e zero d h = (and_parts (test x) (each test xs) e).0
 each_at test (x ∷ xs) e (suc k) d h = each_at test xs (and_parts (test x) (each test xs) e).1 k d (le_of_suc-le-suc h)
 
-pub each_from : {X : Type 0} (test : X → Bool) (xs : List X) → ((k : ℕ) (d : X) → k < length xs → test (get_or xs k d) ≡ true) → each test xs ≡ true
+pub each_is : {X : Type 0} (test : X → Bool) (xs : List X) → list_all test xs ≡ each test xs
 unfolding each
-each_from test [] f = refl
-each_from test (x ∷ xs) f = and_from (test x) (each test xs) (f 0 x (omega arith)) (each_from test xs (λ k d h. f (suc k) d (omega arith)))
-
-pub each_fails : {X : Type 0} (test : X → Bool) (xs : List X) (k : ℕ) (x : X) → k < length xs → x ≡ get_or xs k x → test x ≡ false → each test xs ≡ false
-each_fails test xs k x h is e =
-    ⊎_elim (λ (q : each test xs ≡ true). absurd (both_ways (test x) e (ap test is ∙ each_at test xs q k x h))) (λ (q : each test xs ≡ false). q) (cases_Bool (each test xs))
+each_is test [] = refl
+each_is test (x ∷ xs) = ap (λ b. test x && b) (each_is test xs)
 
 -- has
 
@@ -108,9 +88,3 @@ repeated_eq {X = X} f g (x ∷ xs) e = same_bool (repeated f (x ∷ xs)) (repeat
     over f g e q =
         let w = repeated_at f (x ∷ xs) q in
         repeated_from g (x ∷ xs) w.0 w.1 x w.2 w.3 (sym (e w.0 w.1 x (omega (arith, w.2, w.3)) w.3) ∙ w.4 x)
-
--- a vector whose items were all lent
-pub lent : {X : Type 0} (n : ℕ) (new rest : List X) → length new ≡ n → take n (new ++ rest) ≡ new
-lent n new rest e =
-    let h : n ≤ length new = omega arith in
-    take-append-le n new rest h ∙ take_all n new (omega arith)

@@ -77,7 +77,3 @@ unfolding has
 has_none test xs true l = refl
 has_none test xs false true = refl
 has_none test xs false false = refl
-
--- sets that were empty
-pub from_empty : (sets : List SmallSet) (n : ℕ) (e : SmallSet) → sets ≡ replicate n e → ((i : ℕ) → member e i ≡ false) → (s i : ℕ) → s < n → member (get_or sets s empty_set) i ≡ false
-from_empty sets n e is none s i h = ap (λ xs. member (get_or xs s empty_set) i) is ∙ ap (λ x. member x i) (get_or-replicate n s e empty_set h) ∙ none i

@@ -7,7 +7,7 @@ use Rattle.semantics.proofs.Bools.{same_bool}
 use Rattle.sorting.specs.Sorting.{key_of, value_of}
 use Rattle.sorting.specs.Repetition.{repeats, small, repeated_answer}
 use Rattle.table.specs.Records.{repeated}
-use Rattle.table.proofs.Listing.{items_more, repeated_at, repeated_from}
+use Rattle.table.proofs.Listing.{repeated_at, repeated_from}
 
 first : {X : Type 0} (xs : List X) → 0 < length xs → X
 first [] h = absurd (not-suc-le-zero h)
@@ -56,19 +56,6 @@ module _ {X : Type 0} (key value : X → ℕ) (xs : List X) (ps : List (ℕ × �
       let d = first xs (omega arith) in
       and_from (ltb (key_of ps k) 1024) (ltb (value_of ps k) 65536)
       (lt-ltb (key_of ps k) 1024 (omega (arith, (is k d l).0, (low k d l).0))) (lt-ltb (value_of ps k) 65536 (omega (arith, (is k d l).1, (low k d l).1)))))
-
--- the pairs of the first k records, and of the next
-pub paired_more : {X : Type 0} (key value : X → ℕ) (xs : List X) (ps : List (ℕ × ℕ)) (k : ℕ) (x : X) (pair : ℕ × ℕ) → k < length xs → x ≡ get_or xs k x → k < length ps →
-    ((i : ℕ) (d : X) → i < k → (key_of ps i ≡ key (get_or xs i d)) × (value_of ps i ≡ value (get_or xs i d))) → (pair.0 ≡ key x) × (pair.1 ≡ value x) →
-    (i : ℕ) (d : X) → i < k + 1 → (key_of (set ps k pair) i ≡ key (get_or xs i d)) × (value_of (set ps k pair) i ≡ value (get_or xs i d))
-paired_more key value xs ps k x pair h is room below here =
-    items_more (λ i y. (key_of (set ps k pair) i ≡ key y) × (value_of (set ps k pair) i ≡ value y)) xs k x h is
-    (λ i d l.
-    let b = below i d l in
-    let e : get_or (set ps k pair) i (0, 0) ≡ get_or ps i (0, 0) = get_or-set_other ps k i pair (0, 0) (λ q. omega arith) in
-    (ap (λ (p : ℕ × ℕ). p.0) e ∙ b.0, ap (λ (p : ℕ × ℕ). p.1) e ∙ b.1))
-    (let e : get_or (set ps k pair) k (0, 0) ≡ pair = get_or-set_same ps k pair (0, 0) room in
-    (ap (λ (p : ℕ × ℕ). p.0) e ∙ here.0, ap (λ (p : ℕ × ℕ). p.1) e ∙ here.1))
 
 -- what is answered of the front of a list of pairs
 pub front_repeated : {X : Type 0} (key value : X → ℕ) (xs : List X) (ps : List (ℕ × ℕ)) (m : ℕ) → m ≡ length xs → m ≤ length ps →

@@ -1,4 +1,5 @@
 pub mod Records
+pub mod Lists
 pub mod Table
 pub mod TableAnswers
 pub mod Tables

@@ -5,11 +5,9 @@ use Rattle.semantics.specs.Lts.{Lts, sum, one}
 use Rattle.lts.specs.declared.sets.SmallSet.{SmallSet}
 use Rattle.lts.specs.Source.{Answers}
 use Rattle.lts.specs.Sets.{member}
-use Rattle.sorting.specs.Sorting.{start, row, Under}
+use Rattle.sorting.specs.Sorting.{start, row, Rising, Under}
 use Rattle.records.specs.declared.Transition.{Transition}
 use Rattle.table.specs.declared.Table.{Table}
-use Rattle.table.specs.declared.build.End.{End}
-use Rattle.table.specs.declared.build.End.TheVariants.{Target, Source}
 
 -- the set past the end of a list
 abbrev pub empty_set : SmallSet
@@ -34,10 +32,6 @@ held_lts n actions atoms ends sources gaps marks = record {
   divergent = λ s a. in_set n actions gaps s a;
   holds = λ p s. in_set n atoms marks s p;
 }
-
--- every row ends where it begins or later
-abbrev pub Rising : List ℕ → Type 0
-Rising ends = (i : ℕ) → i < length ends → start ends i ≤ slice_index ends i
 
 -- place a * n + s has the number of transitions on a from s
 abbrev pub Leaving : (n actions : ℕ) (ends sources degrees : List ℕ) → Type 0
@@ -65,9 +59,11 @@ abbrev pub zero_transition : Transition
 zero_transition = record { source = 0; action = 0; target = 0 }
 
 -- the row of a transition by its action and one end, and its other end
-abbrev pub pair_by : End → ℕ → Transition → ℕ × ℕ
-pair_by Target n x = (x.action * n + x.target, x.source)
-pair_by Source n x = (x.action * n + x.source, x.target)
+abbrev pub arrival : ℕ → Transition → ℕ × ℕ
+arrival n x = (x.action * n + x.target, x.source)
+
+abbrev pub departure : ℕ → Transition → ℕ × ℕ
+departure n x = (x.action * n + x.source, x.target)
 
 -- The answers
 
@@ -108,10 +104,10 @@ table_answers n actions atoms ends sources degrees gaps marks = record {
 
 -- the same of a value of the type
 abbrev pub table_means : Table → Lts
-table_means x = held_lts x.counts.states x.counts.actions x.counts.atoms (vec_items x.ends) (vec_items x.sources) (vec_items x.gaps) (vec_items x.marks)
+table_means x = held_lts x.counts.states x.counts.actions x.counts.atoms (vec_items x.rows.ends) (vec_items x.rows.items) (vec_items x.gaps) (vec_items x.marks)
 
 abbrev pub table_says : Table → Answers
-table_says x = table_answers x.counts.states x.counts.actions x.counts.atoms (vec_items x.ends) (vec_items x.sources) (vec_items x.degrees) (vec_items x.gaps) (vec_items x.marks)
+table_says x = table_answers x.counts.states x.counts.actions x.counts.atoms (vec_items x.rows.ends) (vec_items x.rows.items) (vec_items x.degrees) (vec_items x.gaps) (vec_items x.marks)
 
 abbrev pub TableReady : Table → Type 0
-TableReady x = Stored x.counts.states x.counts.actions x.counts.atoms (vec_items x.ends) (vec_items x.sources) (vec_items x.degrees) (vec_items x.gaps) (vec_items x.marks)
+TableReady x = Stored x.counts.states x.counts.actions x.counts.atoms (vec_items x.rows.ends) (vec_items x.rows.items) (vec_items x.degrees) (vec_items x.gaps) (vec_items x.marks)

@@ -13,9 +13,9 @@ use Rattle.lts.specs.declared.sets.SmallSet.{SmallSet}
 use Rattle.lts.specs.Sets.{member}
 use Rattle.lts.specs.Source.{one_if, Predecessors, Shows}
 use Rattle.lts.proofs.Bounds.{below_by}
-use Rattle.sorting.specs.Sorting.{start, row}
+use Rattle.sorting.specs.Sorting.{start, row, Rising}
 use Rattle.sorting.proofs.Starts.{start_zero, start_next, row_is}
-use Rattle.table.specs.TableAnswers.{empty_set, in_set, held_transitions, held_lts, Rising, Stored, place_of, at_place, table_in, table_out, table_on, table_predecessor, table_answers}
+use Rattle.table.specs.TableAnswers.{empty_set, in_set, held_transitions, held_lts, Stored, place_of, at_place, table_in, table_out, table_on, table_predecessor, table_answers}
 
 -- each row begins where the rows before it end
 start_sum : (ends : List ℕ) → Rising ends → (i : ℕ) → i ≤ length ends → start ends i ≡ sum i (row ends)

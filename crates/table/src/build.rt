@@ -1,73 +1,57 @@
-ghost use Rattle.std.specs.Prelude.{◌≡◌, ℕ, ◌<◌, ◌≤◌, true, length, IfOk, None, slice_index_or};
-ghost use Rattle.table.specs.Table.{table_lts, table_refusal};
-ghost use Rattle.table.specs.TableAnswers.{pair_by, zero_transition, table_means, TableReady};
+ghost use Rattle.std.specs.Prelude.{◌≡◌, ℕ, ◌+◌, ◌*◌, ◌<◌, IfOk, None, map};
+ghost use Rattle.table.specs.Lists.{refusal_of, lts_of};
+ghost use Rattle.table.specs.TableAnswers.{arrival, departure, table_means, TableReady};
 
 use crate::Table;
 use crate::entries::noted;
-use records::{Counts, Divergence, Label, Transition};
-use sorting::{Rows, counted, sorted};
+use crate::lists::Records;
+use sorting::{counted, sorted};
 use std::alloc::{AllocError, Global};
 
-/// By which end of a transition its row goes.
-#[derive(Clone, Copy)]
-pub(crate) enum End {
-    Target,
-    Source,
-}
-
-/// The row of a transition, by its action and that end, and its other end.
-fn pair(transition: Transition, states: u16, by: End) -> (usize, usize)
-    ensures { result ≡ pair_by by states transition }
-{
-    let row = usize::from(transition.action) * usize::from(states);
-    let source = usize::from(transition.source);
-    let target = usize::from(transition.target);
-    match by {
-        End::Target => (row + target, source),
-        End::Source => (row + source, target),
+impl Records<'_> {
+    /// The row of each transition by its action and its target, and its source.
+    fn arrivals(&self, heap: Global) -> Result<Vec<(usize, usize)>, AllocError>
+        ensures { IfOk result (λ v. v.items ≡ map (arrival self.now.counts.states) self.now.transitions.now) }
+    {
+        let states = usize::from(self.counts.states);
+        self.transitions
+            .iter()
+            .map(|x| (
+                usize::from(x.action) * states + usize::from(x.target),
+                usize::from(x.source),
+            ))
+            .collect(heap)
     }
-}
 
-/// The rows and other ends of all transitions.
-fn pairs(
-    heap: Global,
-    transitions: &[Transition],
-    states: u16,
-    by: End,
-) -> Result<Vec<(usize, usize)>, AllocError>
-    ensures { IfOk result (λ v. (length v.items ≡ length transitions.now) × ((k : ℕ) → k < length transitions.now → slice_index_or v.items k (0, 0) ≡ pair_by by states (slice_index_or transitions.now k zero_transition))) }
-{
-    let mut pairs = Vec::new(heap);
-    for transition in transitions {
-        pairs.push(pair(*transition, states, by))?;
+    /// The row of each transition by its action and its source, and its target.
+    fn departures(&self, heap: Global) -> Result<Vec<(usize, usize)>, AllocError>
+        ensures { IfOk result (λ v. v.items ≡ map (departure self.now.counts.states) self.now.transitions.now) }
+    {
+        let states = usize::from(self.counts.states);
+        self.transitions
+            .iter()
+            .map(|x| (
+                usize::from(x.action) * states + usize::from(x.source),
+                usize::from(x.target),
+            ))
+            .collect(heap)
     }
-    Ok(pairs)
 }
 
 /// The table, where nothing is amiss with its records.
-pub(crate) fn build(
-    heap: Global,
-    counts: Counts,
-    transitions: &[Transition],
-    divergences: &[Divergence],
-    labels: &[Label],
-) -> Result<Table, AllocError>
-    requires { table_refusal counts transitions.now divergences.now labels.now ≡ None }
-    ensures { IfOk result (λ x. (table_means x ≡ table_lts counts transitions.now divergences.now labels.now) × TableReady x) }
+pub(crate) fn build(heap: Global, records: &Records<'_>) -> Result<Table, AllocError>
+    requires { refusal_of records.now ≡ None }
+    ensures { IfOk result (λ x. (table_means x ≡ lts_of records.now) × TableReady x) }
 {
-    let arrivals = pairs(heap, transitions, counts.states, End::Target)?;
-    let departures = pairs(heap, transitions, counts.states, End::Source)?;
-    let places = usize::from(counts.actions) * usize::from(counts.states);
-    let Rows { ends, items } = sorted(heap, &arrivals, places)?;
-    let degrees = counted(heap, &departures, places)?;
-    let gaps = noted(heap, divergences, usize::from(counts.states))?;
-    let marks = noted(heap, labels, usize::from(counts.states))?;
+    let states = usize::from(records.counts.states);
+    let arrivals = records.arrivals(heap)?;
+    let departures = records.departures(heap)?;
+    let places = usize::from(records.counts.actions) * states;
     Ok(Table {
-        counts,
-        ends,
-        sources: items,
-        degrees,
-        gaps,
-        marks,
+        counts: records.counts,
+        rows: sorted(heap, &arrivals, places)?,
+        degrees: counted(heap, &departures, places)?,
+        gaps: noted(heap, records.divergences, states)?,
+        marks: noted(heap, records.labels, states)?,
     })
 }

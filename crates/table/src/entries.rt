@@ -34,9 +34,7 @@ impl Entry for Transition {
     ghost value = { λ x. x.action * 1024 + x.target };
 
     fn inside(&self, counts: Counts) -> bool {
-        (self.source < counts.states)
-            & (self.action < counts.actions)
-            & (self.target < counts.states)
+        self.source < counts.states && self.action < counts.actions && self.target < counts.states
     }
 
     fn pair(&self) -> (usize, usize) {
@@ -55,7 +53,7 @@ impl Entry for Divergence {
     ghost value = { λ x. x.action };
 
     fn inside(&self, counts: Counts) -> bool {
-        (self.state < counts.states) & (self.action < counts.actions)
+        self.state < counts.states && self.action < counts.actions
     }
 
     fn pair(&self) -> (usize, usize) {
@@ -71,7 +69,7 @@ impl Entry for Label {
     ghost value = { λ x. x.atom };
 
     fn inside(&self, counts: Counts) -> bool {
-        (self.atom < counts.atoms) & (self.state < counts.states)
+        self.atom < counts.atoms && self.state < counts.states
     }
 
     fn pair(&self) -> (usize, usize) {
@@ -83,12 +81,7 @@ impl Entry for Label {
 pub(crate) fn all_inside<E: Entry>(entries: &[E], counts: Counts) -> bool
     ensures { result ≡ each (E.Entry.inside counts) entries.now }
 {
-    for k in 0..entries.len() {
-        if !entries[k].inside(counts) {
-            return false;
-        }
-    }
-    true
+    entries.iter().all(|entry| entry.inside(counts))
 }
 
 /// Whether some record stands in the list twice, by its two numbers. No memory is asked for.
@@ -98,21 +91,20 @@ pub(crate) fn repeats<E: Entry>(entries: &[E]) -> bool
     ensures { result ≡ repeated_in (λ x y. (E.Entry.key x == E.Entry.key y) && E.Entry.value x == E.Entry.value y) entries.now }
 {
     let mut pairs = [(0, 0); 2048];
-    for k in 0..entries.len() {
-        pairs[k] = entries[k].pair();
+    // by index, since a proof knows no element after a zip of `iter_mut`
+    for (k, entry) in entries.iter().enumerate() {
+        pairs[k] = entry.pair();
     }
-    match repeated(&pairs[..entries.len()]) {
-        Some(found) => found,
-        None => false,
-    }
+    repeated(&pairs[..entries.len()]).unwrap_or(false)
 }
 
 /// Puts the value of each record into the set of its key.
 fn note<E: Entry>(entries: &[E], sets: &mut [SmallSet])
     ensures { (s i : ℕ) → s < length sets.new → member (slice_index_or sets.new s empty_set) i ≡ (member (slice_index_or sets.old s empty_set) i || (nat_lt i 64 && has (λ x. (E.Entry.key x == s) && E.Entry.value x == i) entries.now)) }
 {
-    for k in 0..entries.len() {
-        let (key, value) = entries[k].pair();
+    for entry in entries {
+        let (key, value) = entry.pair();
+        // by index, since a proof knows no element of a slice after `get_mut`
         if key < sets.len() {
             sets[key] = sets[key].with(value);
         }

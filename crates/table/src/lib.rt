@@ -1,33 +1,34 @@
 //! A source held in memory: the records of a flow text.
 #![tactic(auto)]
 
-ghost use Rattle.std.specs.Prelude.{◌≡◌, ℕ, ◌+◌, ◌-◌, ◌*◌, length, Some, None, MatchResult, slice_index};
-ghost use Rattle.sorting.specs.Sorting.{start};
+ghost use Rattle.std.specs.Prelude.{◌≡◌, ℕ, ◌+◌, ◌-◌, ◌*◌, length, Some, None, MatchResult};
+ghost use Rattle.table.specs.declared.TableRefusal.TheVariants.{Memory};
 ghost use Rattle.table.specs.Table.{table_lts, table_refusal, Refuses, table_refusal_number};
 ghost use Rattle.table.specs.TableAnswers.{table_means, table_says, TableReady, in_set, place_of};
 ghost use Rattle.table.specs.Tables.{table_shows};
 
 use crate::build::build;
-use crate::checks::refusal;
+use crate::lists::Records;
 use lts::Source;
 use lts::sets::SmallSet;
 use records::{Counts, Divergence, Label, Transition};
-use std::alloc::Global;
+use sorting::Rows;
+use std::alloc::{AllocError, Global};
 
 mod build;
 mod checks;
 mod entries;
+mod lists;
 
-/// A system in memory. Row a × n + t of `sources` has the transitions on a into t, where there are n states.
+/// A system in memory, where there are n states.
 #[derive(Drop)]
 pub struct Table {
     counts: Counts,
-    /// where each row ends
-    ends: Vec<usize>,
-    /// the states that the transitions leave, row by row
-    sources: Vec<usize>,
+    /// the states that the transitions on a into t leave, in row a × n + t
+    rows: Rows,
     /// the out-degree of s on a, at a × n + s
     degrees: Vec<usize>,
+    // two lists of sets, since each is made by `noted` from records of its own
     /// for each state, the actions on which it is divergent
     gaps: Vec<SmallSet>,
     /// for each state, the atoms that hold
@@ -62,6 +63,14 @@ impl TableRefusal {
     }
 }
 
+impl From<AllocError> for TableRefusal {
+    ghost from_gives = { λ _ e. e ≡ Memory };
+
+    fn from(_error: AllocError) -> TableRefusal {
+        TableRefusal::Memory
+    }
+}
+
 impl Table {
     /// The table of the records; or the first cause to refuse them. The lists are only lent and stay as they were, and
     /// nothing is given by value but the counts, which are copied: so there is nothing to hand back.
@@ -74,39 +83,22 @@ impl Table {
     ) -> Result<Table, TableRefusal>
         ensures { MatchResult result (λ x. (table_refusal counts transitions.now divergences.now labels.now ≡ None) × (table_means x ≡ table_lts counts transitions.now divergences.now labels.now) × TableReady x) (λ e. Refuses (table_refusal counts transitions.now divergences.now labels.now) e) }
     {
-        match refusal(counts, transitions, divergences, labels) {
-            Some(why) => Err(why),
-            None => match build(heap, counts, transitions, divergences, labels) {
-                Ok(table) => Ok(table),
-                Err(_) => Err(TableRefusal::Memory),
-            },
-        }
+        let records = Records {
+            counts,
+            transitions,
+            divergences,
+            labels,
+        };
+        records.check()?;
+        Ok(build(heap, &records)?)
     }
-}
 
-/// What stands at `i`, or 0.
-fn item(items: &[usize], i: usize) -> usize
-    ensures { result ≡ slice_index items.now i }
-{
-    if i < items.len() { items[i] } else { 0 }
-}
-
-/// Where row `i` begins.
-fn begin(ends: &[usize], i: usize) -> usize
-    ensures { result ≡ start ends.now i }
-{
-    if i == 0 { 0 } else { item(ends, i - 1) }
-}
-
-/// The place of action `a` and state `s`, where there is one.
-fn place(counts: Counts, a: usize, s: usize) -> Option<usize>
-    ensures { result ≡ place_of counts.states counts.actions a s }
-{
-    let states = usize::from(counts.states);
-    if a < usize::from(counts.actions) && s < states {
-        Some(a * states + s)
-    } else {
-        None
+    /// The place of action `a` and state `s`, where there is one.
+    fn place(&self, a: usize, s: usize) -> Option<usize>
+        ensures { result ≡ place_of self.now.counts.states self.now.counts.actions a s }
+    {
+        let states = usize::from(self.counts.states);
+        (a < usize::from(self.counts.actions) && s < states).then(|| a * states + s)
     }
 }
 
@@ -114,7 +106,8 @@ fn place(counts: Counts, a: usize, s: usize) -> Option<usize>
 fn in_set(sets: &[SmallSet], most: u16, s: usize, i: usize) -> bool
     ensures { result ≡ in_set (length sets.now) most sets.now s i }
 {
-    s < sets.len() && i < usize::from(most) && sets[s].has(i)
+    sets.get(s)
+        .is_some_and(|set| i < usize::from(most) && set.has(i))
 }
 
 impl Source for Table {
@@ -124,7 +117,7 @@ impl Source for Table {
 
     ghost ready = { TableReady };
 
-    ghost shows = { λ x r. table_shows x.counts.states x.counts.actions x.counts.atoms x.ends.items x.sources.items x.degrees.items x.gaps.items x.marks.items r };
+    ghost shows = { λ x r. table_shows x.counts.states x.counts.actions x.counts.atoms x.rows.ends.items x.rows.items.items x.degrees.items x.gaps.items x.marks.items r };
 
     fn states(&self) -> usize {
         usize::from(self.counts.states)
@@ -147,37 +140,30 @@ impl Source for Table {
     }
 
     fn out_degree(&self, s: usize, a: usize) -> usize {
-        match place(self.counts, a, s) {
-            Some(i) => item(&self.degrees, i),
-            None => 0,
-        }
+        self.place(a, s)
+            .and_then(|i| self.degrees.get(i))
+            .copied()
+            .unwrap_or(0)
     }
 
     fn in_degree(&self, t: usize, a: usize) -> usize {
-        match place(self.counts, a, t) {
-            Some(i) => item(&self.ends, i).saturating_sub(begin(&self.ends, i)),
-            None => 0,
-        }
+        self.place(a, t).map_or(0, |i| self.rows.row(i).len())
     }
 
     fn transitions(&self, a: usize) -> usize {
         let states = usize::from(self.counts.states);
         if a < usize::from(self.counts.actions) {
             let i = a * states;
-            begin(&self.ends, i + states).saturating_sub(begin(&self.ends, i))
+            self.rows
+                .start(i + states)
+                .saturating_sub(self.rows.start(i))
         } else {
             0
         }
     }
 
     fn predecessor(&self, t: usize, a: usize, k: usize) -> Option<usize> {
-        let i = place(self.counts, a, t)?;
-        let from = begin(&self.ends, i);
-        let to = item(&self.ends, i);
-        if k < to.saturating_sub(from) {
-            Some(item(&self.sources, from + k))
-        } else {
-            None
-        }
+        let i = self.place(a, t)?;
+        self.rows.row(i).get(k).copied()
     }
 }

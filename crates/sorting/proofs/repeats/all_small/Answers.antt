@@ -1,23 +1,23 @@
-use Rattle.std.proofs.Common.{leb, length, sym, arith, below_more}
-use Rattle.std.proofs.lemmas.Bool.{and_from, and_left, and_right, le-leb, lt-leb}
-use Rattle.semantics.proofs.Everywhere.{every_from, every_fails}
+use Rattle.std.proofs.Common.{ℕ, ◌&&◌, ltb, leb, length, get_or, sym, ap, ◌∙◌, rules}
+use Rattle.std.proofs.lemmas.Bool.{le-leb, lt-leb, and_left}
+use Rattle.std.proofs.lemmas.Iterator.{YieldsList-from_slice}
+use Rattle.std.proofs.lemmas.Iterator.Search.{all_from_yields_List}
+use borrow.Author.Tests.{tests}
+use Rattle.semantics.specs.Lts.{every}
 use Rattle.sorting.specs.Repetition.{small}
+use Rattle.sorting.proofs.Listed.{every_item}
 use Rattle.sorting.proofs.repeats.all_small.Goals as goal
 
-pub returns-then-pairs-gt2048 : goal.returns-then-pairs-gt2048
+pub returns-then-pairs-le2048 : goal.returns-then-pairs-le2048
 unfolding small
-returns-then-pairs-gt2048 c = sym (and_left (leb (length c.args.pairs.now) 2048) _ (lt-leb (length c.args.pairs.now) 2048 c.if-pairs-gt2048.true))
+returns-then-pairs-le2048 c =
+    let ps = c.args.pairs.now in
+    let p = λ (x : ℕ × ℕ). ltb x.0 1024 && ltb x.1 65536 in
+    all_from_yields_List p _ _ _ c.all.ensures.ran (YieldsList-from_slice ps cc) (λ x b q k. search (rules, tests)) ∙ every_item p ps (0, 0) ∙
+    ap (λ b. b && every (length ps) (λ k. p (get_or ps k (0, 0)))) (sym (le-leb (length ps) 2048 c.if-pairs-le2048.true))
 
-pub returns-then-not-fits : goal.returns-then-not-fits
+pub returns-else-pairs-le2048 : goal.returns-else-pairs-le2048
 unfolding small
-returns-then-not-fits c =
-    sym (and_right (leb (length c.args.pairs.now) 2048) _ (every_fails (length c.args.pairs.now) c.loop-k.k _ c.loop-k-test.true c.if-not-fits.true))
-
-pub loop-k-preserved : goal.loop-k-preserved
-loop-k-preserved c = below_more _ _ c.loop-k.invariant c.if-not-fits.false
-
-pub returns : goal.returns
-unfolding small
-returns c =
-    sym (and_from (leb (length c.args.pairs.now) 2048) _ (le-leb (length c.args.pairs.now) 2048 c.if-pairs-gt2048.false)
-    (every_from (length c.args.pairs.now) _ (λ k h. c.loop-k.invariant k (omega arith))))
+returns-else-pairs-le2048 c =
+    let long = lt-leb (length c.args.pairs.now) 2048 c.if-pairs-le2048.false in
+    long ∙ sym (and_left (leb (length c.args.pairs.now) 2048) _ long)
