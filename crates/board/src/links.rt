@@ -6,7 +6,8 @@ ghost use Rattle.board.specs.Links.{variable?, variable, is_first, relink};
 ghost use Rattle.board.specs.View.{link_number};
 
 use crate::board::Board;
-use semantics::{Equation, Form};
+use records::Form;
+use semantics::Equation;
 
 // The variable that operand `p` of an equation is, if it is one.
 fn variable(equation: Equation, p: usize) -> Option<usize>

@@ -3,14 +3,7 @@ ghost use Rattle.semantics.specs.Equations.{nth};
 ghost use Rattle.board.specs.State.{place_of, waiting};
 
 use crate::board::Board;
-use semantics::{Equation, Form, Refusal};
-
-/// What stands where a book has no equation.
-pub(crate) const NO_EQUATION: Equation = Equation {
-    form: Form::False,
-    first: 0,
-    second: 0,
-};
+use semantics::{Equation, Refusal};
 
 impl Board {
     /// Whether a book is loaded.
@@ -55,7 +48,7 @@ impl Board {
     pub fn equation(&self, j: usize) -> Equation
         ensures { result ≡ nth self.now.book j }
     {
-        self.equations.get(j).copied().unwrap_or(NO_EQUATION)
+        self.equations.get(j).copied().unwrap_or(Equation::NONE)
     }
 
     /// The place of a pair, or why there is none.

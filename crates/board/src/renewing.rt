@@ -1,14 +1,13 @@
 ghost use Rattle.std.specs.Prelude.{◌≡◌, ◌*◌, ◌≤◌, length, replicate, IfOk, vec_len, vec_capacity, if◌then◌else◌};
 ghost use Rattle.semantics.specs.declared.Refusal.TheVariants.{TooManyPairs};
-ghost use Rattle.semantics.specs.Equations.{form_of};
+ghost use Rattle.records.specs.Letters.{form_of};
 ghost use Rattle.semantics.specs.Plain.{equation_of, book_of};
 ghost use Rattle.board.specs.State.{blank};
 ghost use Rattle.board.specs.Renewing.{fresh, room?, renewed};
 
 use crate::board::{Board, Cell};
-use crate::reads::NO_EQUATION;
 use records::EquationRecord;
-use semantics::{Equation, Form, Refusal};
+use semantics::{Equation, Refusal};
 use std::alloc::{AllocError, Global};
 
 // Fills with `n` copies of `x`, in the room that there is.
@@ -27,14 +26,7 @@ fn refill<T: Copy>(v: &mut Vec<T>, n: usize, x: T)
 fn read_equation(written: &EquationRecord) -> Equation
     ensures { result ≡ equation_of (form_of written.now.form) written.now.first written.now.second }
 {
-    let Some(form) = Form::of(written.form) else {
-        return NO_EQUATION;
-    };
-    Equation {
-        form,
-        first: written.first,
-        second: written.second,
-    }
+    Equation::try_from(*written).unwrap_or(Equation::NONE)
 }
 
 // The equations of the records, in the room that there is: `push_reserved` says by type that it claims none.

@@ -3,7 +3,7 @@ use Rattle.std.proofs.Common.{◌≡◌, ℕ, ◌+◌, ◌<◌, ◌≤◌, Bool,
 use Rattle.std.proofs.lemmas.List.{drop_more, drop_all}
 use Rattle.records.specs.declared.EquationRecord.{EquationRecord}
 use Rattle.semantics.specs.Lts.{Lts}
-use Rattle.semantics.specs.Equations.{form_of}
+use Rattle.records.specs.Letters.{form_of}
 use Rattle.semantics.specs.Plain.{well_formed, all_well_formed}
 
 pub rest_more : (F : Lts) (n : ℕ) (rs : List EquationRecord) (i : ℕ) (r : EquationRecord) (w t : Bool) → i < length rs → w ≡ all_well_formed F n (drop i rs) → t ≡ well_formed F n (form_of (get_or rs i r).form) (get_or rs i r).first (get_or rs i r).second →

@@ -1,24 +1,24 @@
 ghost use Rattle.std.specs.Prelude.{◌≡◌, length};
-ghost use Rattle.semantics.specs.Equations.{form_of};
+ghost use Rattle.records.specs.Letters.{form_of};
 ghost use Rattle.semantics.specs.Plain.{well_formed, all_well_formed, proper, fits};
 ghost use Rattle.refinement.specs.Calls.{sized};
 
 use lts::Source;
-use records::EquationRecord;
-use semantics::Form;
+use records::{EquationRecord, Form};
 
 // Whether the form is known, its places name what is there among `n` variables, and unused ones are 0.
+#[tactic(auto, unfolding(semantics::specs::Plain::well_formed))]
 fn well_formed<S: Source>(source: &S, n: usize, written: &EquationRecord) -> bool
     ensures { result ≡ well_formed (sized (S.Source.answers source.now)) n (form_of written.now.form) written.now.first written.now.second }
 {
     let first = usize::from(written.first);
     let second = usize::from(written.second);
-    match Form::of(written.form) {
-        None => false,
-        Some(Form::True | Form::False) => first == 0 && second == 0,
-        Some(Form::Atom) => first < source.atoms() && second == 0,
-        Some(Form::Or | Form::And) => first < n && second < n,
-        Some(Form::Diamond | Form::Box) => first < source.actions() && second < n,
+    match Form::try_from(written.form) {
+        Err(_) => false,
+        Ok(Form::True | Form::False) => first == 0 && second == 0,
+        Ok(Form::Atom) => first < source.atoms() && second == 0,
+        Ok(Form::Or | Form::And) => first < n && second < n,
+        Ok(Form::Diamond | Form::Box) => first < source.actions() && second < n,
     }
 }
 

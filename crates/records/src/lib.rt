@@ -1,6 +1,9 @@
 //! The records that texts spell, and that sources and sessions are made from.
 #![tactic(auto)]
 
+mod letters;
+mod spelling;
+
 /// How many states, actions and atoms a flow has. Each is numbered from 0.
 #[derive(Clone, Copy, Debug, PartialEq, Eq)]
 pub struct Counts {
@@ -38,10 +41,27 @@ pub enum Fixpoint {
     Least,
 }
 
+/// The form of an equation, one of the characters `t f A | & < [`.
+#[derive(Clone, Copy, Debug, PartialEq, Eq)]
+pub enum Form {
+    True,
+    False,
+    Atom,
+    Or,
+    And,
+    Diamond,
+    Box,
+}
+
 /// An equation as it is written: its form is one of the characters `t f A | & < [`.
 #[derive(Clone, Copy, Debug, PartialEq, Eq)]
 pub struct EquationRecord {
+    /// A character and no `Form`: a session is given records of any form, and refuses an unknown one.
     pub form: char,
     pub first: u16,
     pub second: u16,
 }
+
+/// A character that names no side, or no form.
+#[derive(Clone, Copy, Debug, PartialEq, Eq)]
+pub struct UnknownLetter(pub char);

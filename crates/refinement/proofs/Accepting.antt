@@ -2,11 +2,12 @@
 use Rattle.std.proofs.Common.{◌≡◌, ℕ, zero, suc, ◌*◌, ◌<◌, ◌≤◌, Bool, true, false, ◌&&◌, eqb, ltb, leb, List, [], ◌∷◌, length, Some, None, Option, sym, refl, ap, subst, ap₂, arith}
 use Rattle.std.proofs.lemmas.Bool.{both_ways, and_parts, leb-true}
 use Rattle.records.specs.declared.EquationRecord.{EquationRecord}
-use Rattle.semantics.specs.declared.Form.{Form}
-use Rattle.semantics.specs.declared.Form.TheVariants.{True, False, Atom, Or, And, Diamond, Box}
+use Rattle.records.specs.declared.Form.{Form}
+use Rattle.records.specs.declared.Form.TheVariants.{True, False, Atom, Or, And, Diamond, Box}
 use Rattle.semantics.specs.declared.Equation.{Equation}
 use Rattle.semantics.specs.Lts.{Lts}
-use Rattle.semantics.specs.Equations.{form_of, nth}
+use Rattle.records.specs.Letters.{form_of}
+use Rattle.semantics.specs.Equations.{nth}
 use Rattle.semantics.specs.Plain.{well_formed, all_well_formed, equation_of, book_of, proper, fits}
 use Rattle.lts.specs.Source.{Answers, Shows}
 use Rattle.board.proofs.Books.{length_book}

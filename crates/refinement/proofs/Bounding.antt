@@ -17,8 +17,8 @@ use Rattle.semantics.specs.Law.{crossings, junction, most_looks}
 use Rattle.semantics.specs.Lts.{Lts, all, on, sum}
 use Rattle.semantics.specs.Plain.{among, well_formed}
 use Rattle.semantics.specs.declared.Equation.{Equation}
-use Rattle.semantics.specs.declared.Form.{Form}
-use Rattle.semantics.specs.declared.Form.TheVariants.{And, Atom, Box, Diamond, False, Or, True}
+use Rattle.records.specs.declared.Form.{Form}
+use Rattle.records.specs.declared.Form.TheVariants.{And, Atom, Box, Diamond, False, Or, True}
 use Rattle.semantics.specs.declared.Pair.{Pair}
 
 -- a place that has turned lies on the board

@@ -12,8 +12,8 @@ use Rattle.semantics.proofs.Sums.{sum_at, sum_const, sum_eq, sum_plus}
 use Rattle.semantics.specs.Equations.{start, truth}
 use Rattle.semantics.specs.Lts.{Lts, every, out_of, some, sum}
 use Rattle.semantics.specs.Plain.{among, changed}
-use Rattle.semantics.specs.declared.Form.{Form}
-use Rattle.semantics.specs.declared.Form.TheVariants.{And, Atom, Box, Diamond, False, Or, True}
+use Rattle.records.specs.declared.Form.{Form}
+use Rattle.records.specs.declared.Form.TheVariants.{And, Atom, Box, Diamond, False, Or, True}
 use Rattle.semantics.specs.declared.Pair.{Pair}
 
 -- the operands that were taken

@@ -22,7 +22,7 @@ use Rattle.semantics.specs.Law.{Once}
 use Rattle.semantics.specs.Lts.{Lts, out_of}
 use Rattle.semantics.specs.Plain.{among, costs, decided, turned}
 use Rattle.semantics.specs.declared.Equation.{Equation}
-use Rattle.semantics.specs.declared.Form.{Form}
+use Rattle.records.specs.declared.Form.{Form}
 
 -- a source's answers are the system's where they count
 

@@ -23,7 +23,7 @@ use Rattle.semantics.specs.Equations.{cost, nth, true_at}
 use Rattle.semantics.specs.Lts.{Lts, sum}
 use Rattle.semantics.specs.Plain.{among, decided, turned, waits}
 use Rattle.semantics.specs.declared.Equation.{Equation}
-use Rattle.semantics.specs.declared.Form.{Form}
+use Rattle.records.specs.declared.Form.{Form}
 use Rattle.semantics.specs.declared.Pair.{Pair}
 
 -- What w operands more decide

@@ -12,8 +12,8 @@ use Rattle.semantics.specs.Equations.{cost, looks_of, nth}
 use Rattle.semantics.specs.Lts.{Lts, sum}
 use Rattle.semantics.specs.Plain.{well_formed}
 use Rattle.semantics.specs.declared.Equation.{Equation}
-use Rattle.semantics.specs.declared.Form.{Form}
-use Rattle.semantics.specs.declared.Form.TheVariants.{And, Atom, Box, Diamond, False, Or, True}
+use Rattle.records.specs.declared.Form.{Form}
+use Rattle.records.specs.declared.Form.TheVariants.{And, Atom, Box, Diamond, False, Or, True}
 
 -- every equation is well-formed
 abbrev pub AllFormed : Lts → List Equation → Type 0

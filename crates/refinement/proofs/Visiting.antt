@@ -13,8 +13,8 @@ use Rattle.refinement.specs.Taking.{hit, hit_from, visit, visit_form, walk}
 use Rattle.semantics.specs.Equations.{nth}
 use Rattle.semantics.specs.Lts.{sum}
 use Rattle.semantics.specs.declared.Equation.{Equation}
-use Rattle.semantics.specs.declared.Form.{Form}
-use Rattle.semantics.specs.declared.Form.TheVariants.{And, Atom, Box, Diamond, False, Or, True}
+use Rattle.records.specs.declared.Form.{Form}
+use Rattle.records.specs.declared.Form.TheVariants.{And, Atom, Box, Diamond, False, Or, True}
 
 -- the hits of the pair (v, j) by equation i, when a pair of state s is taken that it names; and the looks
 abbrev pub hits : Answers → (s i v j : ℕ) → Form → ℕ → ℕ

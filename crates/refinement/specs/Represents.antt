@@ -9,8 +9,8 @@ use Rattle.semantics.specs.Law.{Once}
 use Rattle.semantics.specs.Lts.{Lts, sum}
 use Rattle.semantics.specs.Plain.{Plain, among, book, costs, no_book, turned, well_formed}
 use Rattle.semantics.specs.declared.Equation.{Equation}
-use Rattle.semantics.specs.declared.Form.{Form}
-use Rattle.semantics.specs.declared.Form.TheVariants.{And, Atom, Box, Diamond, False, Or, True}
+use Rattle.records.specs.declared.Form.{Form}
+use Rattle.records.specs.declared.Form.TheVariants.{And, Atom, Box, Diamond, False, Or, True}
 use Rattle.semantics.specs.declared.Pair.{Pair}
 
 -- the pair at a place, with n equations

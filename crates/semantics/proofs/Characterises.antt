@@ -2,8 +2,8 @@
 use Rattle.std.proofs.Common.{◌≡◌, ℕ, zero, suc, ◌+◌, ◌*◌, ◌<◌, ◌≤◌, true, false, not, ◌||◌, ◌⊎◌, List, [], ◌++◌, length, Some, sym, refl, ap, ◌∙◌, subst, inl, inr, arith}
 use Rattle.std.proofs.lemmas.Bool.{both_ways, not-true, not_from_false, and_parts, and_from, or_cases, or_left, or_right}
 use Rattle.records.specs.declared.Fixpoint.TheVariants.{Greatest}
-use Rattle.semantics.specs.declared.Form.{Form}
-use Rattle.semantics.specs.declared.Form.TheVariants.{Atom, Or, And, Diamond, Box}
+use Rattle.records.specs.declared.Form.{Form}
+use Rattle.records.specs.declared.Form.TheVariants.{Atom, Or, And, Diamond, Box}
 use Rattle.semantics.specs.declared.Equation.{Equation}
 use Rattle.semantics.specs.Lts.{Lts, sum, on}
 use Rattle.semantics.specs.Equations.{equation, nth, Marking, truth, true_at, rounds, solution}

@@ -1,6 +1,6 @@
 -- The characteristic equations of a model: the states' equations, then a block of helpers for each state.
 use Rattle.std.proofs.Common.{ℕ, zero, suc, ◌+◌, Bool, true, false, cond, ltb, List, [], ◌∷◌, ◌++◌, length}
-use Rattle.semantics.specs.declared.Form.TheVariants.{Atom, Or, And, Diamond, Box}
+use Rattle.records.specs.declared.Form.TheVariants.{Atom, Or, And, Diamond, Box}
 use Rattle.semantics.specs.declared.Equation.{Equation}
 use Rattle.semantics.specs.Lts.{Lts, sum}
 use Rattle.semantics.specs.Equations.{equation, no_equation}

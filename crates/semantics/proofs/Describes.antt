@@ -1,6 +1,6 @@
 -- How equations are read as the characteristic formula of each state of a model.
 use Rattle.std.proofs.Common.{◌≡◌, ℕ, ◌<◌, true, false, ◌↔◌, List, [], ◌∷◌, ◌++◌}
-use Rattle.semantics.specs.declared.Form.TheVariants.{Atom, Or, And, Diamond, Box}
+use Rattle.records.specs.declared.Form.TheVariants.{Atom, Or, And, Diamond, Box}
 use Rattle.semantics.specs.declared.Equation.{Equation}
 use Rattle.semantics.specs.Lts.{Lts}
 use Rattle.semantics.specs.Equations.{equation, nth}

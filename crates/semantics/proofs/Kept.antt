@@ -3,12 +3,13 @@ use Rattle.std.proofs.Common.{◌≡◌, ℕ, zero, suc, ◌+◌, ◌*◌, ◌<�
 use Rattle.std.proofs.lemmas.Bool.{both_ways, not-true, ltb-true, leb-true, and_parts, or_cases, or_right, cond_both}
 use Rattle.records.specs.declared.Fixpoint.{Fixpoint}
 use Rattle.records.specs.declared.EquationRecord.{EquationRecord}
-use Rattle.semantics.specs.declared.Form.{Form}
-use Rattle.semantics.specs.declared.Form.TheVariants.{True, False, Atom, Or, And, Diamond, Box}
+use Rattle.records.specs.declared.Form.{Form}
+use Rattle.records.specs.declared.Form.TheVariants.{True, False, Atom, Or, And, Diamond, Box}
 use Rattle.semantics.specs.declared.Equation.{Equation}
 use Rattle.semantics.specs.declared.Pair.{Pair}
 use Rattle.semantics.specs.Lts.{Lts}
-use Rattle.semantics.specs.Equations.{form_of, nth, Marking, cost}
+use Rattle.records.specs.Letters.{form_of}
+use Rattle.semantics.specs.Equations.{nth, Marking, cost}
 use Rattle.semantics.specs.Plain.{among, decided, turned, waits, costs, Takes, well_formed, all_well_formed, equation_of, book_of, proper, fits, PlainCall, load, pin, run, query, sheet, Plain, no_book, book, has_pair, after, Allowed, Event, Leads, nothing, next}
 use Rattle.semantics.specs.Law.{Within, Once, Sized}
 use Rattle.semantics.proofs.Markings.{Names, Named}

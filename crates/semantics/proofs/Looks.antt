@@ -1,7 +1,7 @@
 -- The cost of all pairs together.
 use Rattle.std.proofs.Common.{◌≡◌, ℕ, ◌+◌, ◌*◌, ◌≤◌, Bool, true, false, cond, eqb, List, length, arith}
-use Rattle.semantics.specs.declared.Form.{Form}
-use Rattle.semantics.specs.declared.Form.TheVariants.{True, False, Atom, Or, And, Diamond, Box}
+use Rattle.records.specs.declared.Form.{Form}
+use Rattle.records.specs.declared.Form.TheVariants.{True, False, Atom, Or, And, Diamond, Box}
 use Rattle.semantics.specs.declared.Equation.{Equation}
 use Rattle.semantics.specs.declared.Pair.{Pair}
 use Rattle.semantics.specs.Lts.{Lts, sum, into, on}

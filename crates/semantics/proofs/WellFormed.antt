@@ -1,7 +1,7 @@
 -- The characteristic equations are well-formed, and characterise their model.
 use Rattle.std.proofs.Common.{◌≡◌, ℕ, zero, suc, ◌+◌, ◌<◌, ◌≤◌, true, eqb, ltb, List, [], ◌∷◌, ◌++◌, length, Some, refl, inl, inr, arith}
 use Rattle.std.proofs.lemmas.Bool.{and_from, lt-ltb}
-use Rattle.semantics.specs.declared.Form.TheVariants.{Atom}
+use Rattle.records.specs.declared.Form.TheVariants.{Atom}
 use Rattle.semantics.specs.declared.Equation.{Equation}
 use Rattle.semantics.specs.Lts.{Lts, sum}
 use Rattle.semantics.specs.Equations.{equation, nth}

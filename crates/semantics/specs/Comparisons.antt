@@ -1,7 +1,7 @@
 -- Small comparisons, and the equations that characterise one state.
 use Rattle.std.specs.Prelude.{◌≡◌, Bool, true, false, cond, not, ◌&&◌, ◌||◌, List, [], ◌∷◌, ◌==◌}
 use Rattle.records.specs.declared.Fixpoint.TheVariants.{Greatest}
-use Rattle.semantics.specs.declared.Form.TheVariants.{Atom, And, Diamond, Box}
+use Rattle.records.specs.declared.Form.TheVariants.{Atom, And, Diamond, Box}
 use Rattle.semantics.specs.declared.Equation.{Equation}
 use Rattle.semantics.specs.Lts.{Lts}
 use Rattle.semantics.specs.Equations.{equation, solution}

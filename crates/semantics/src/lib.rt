@@ -5,41 +5,12 @@
 
 pub mod laws;
 
-ghost use Rattle.std.specs.Prelude.{◌≡◌};
-ghost use Rattle.semantics.specs.Equations.{form_of};
+ghost use Rattle.std.specs.Prelude.{◌≡◌, None, MatchResult};
+ghost use Rattle.records.specs.Letters.{form_of};
 ghost use Rattle.semantics.specs.Calls.{number_of};
+ghost use Rattle.semantics.specs.Plain.{equation_of};
 
-use records::EquationRecord;
-
-/// The form of an equation, one of the characters `t f A | & < [`.
-#[derive(Clone, Copy, Debug, PartialEq, Eq)]
-pub enum Form {
-    True,
-    False,
-    Atom,
-    Or,
-    And,
-    Diamond,
-    Box,
-}
-
-impl Form {
-    /// The form that a character names.
-    pub fn of(character: char) -> Option<Form>
-        ensures { result ≡ form_of character }
-    {
-        match character {
-            't' => Some(Form::True),
-            'f' => Some(Form::False),
-            'A' => Some(Form::Atom),
-            '|' => Some(Form::Or),
-            '&' => Some(Form::And),
-            '<' => Some(Form::Diamond),
-            '[' => Some(Form::Box),
-            _ => None,
-        }
-    }
-}
+use records::{EquationRecord, Form, UnknownLetter};
 
 /// An equation that is in a book. `Or` and `And` have two variables, `Diamond` and `Box` an action
 /// and a variable, `Atom` an atom; an unused place is 0.
@@ -48,6 +19,32 @@ pub struct Equation {
     pub form: Form,
     pub first: u16,
     pub second: u16,
+}
+
+impl Equation {
+    /// What stands where a book has no equation.
+    pub const NONE: Equation = Equation {
+        form: Form::False,
+        first: 0,
+        second: 0,
+    };
+}
+
+impl TryFrom<EquationRecord> for Equation {
+    type Error = UnknownLetter;
+
+    ghost try_from_gives = { λ written r. MatchResult r
+        (λ e. e ≡ equation_of (form_of written.form) written.first written.second)
+        (λ _. form_of written.form ≡ None) };
+
+    #[tactic(auto, unfolding(crate::specs::Plain::equation_of))]
+    fn try_from(written: EquationRecord) -> Result<Equation, UnknownLetter> {
+        Ok(Equation {
+            form: Form::try_from(written.form)?,
+            first: written.first,
+            second: written.second,
+        })
+    }
 }
 
 /// A state and a variable.
@@ -69,15 +66,15 @@ pub enum Mark {
 #[derive(Clone, Copy, Debug, PartialEq, Eq)]
 pub enum Refusal {
     /// No book is loaded.
-    NoBook,
+    NoBook = 10,
     /// The session has no such pair.
-    NoPair,
+    NoPair = 11,
     /// States times equations are over 8,192.
-    TooManyPairs,
+    TooManyPairs = 12,
     /// The number of equations, a form, a name or an unused place is wrong.
-    BadEquation,
+    BadEquation = 13,
     /// The buffer is too short for the sheet.
-    ShortBuffer,
+    ShortBuffer = 16,
 }
 
 impl Refusal {
@@ -85,13 +82,7 @@ impl Refusal {
     pub fn number(self) -> u8
         ensures { result ≡ number_of self }
     {
-        match self {
-            Refusal::NoBook => 10,
-            Refusal::NoPair => 11,
-            Refusal::TooManyPairs => 12,
-            Refusal::BadEquation => 13,
-            Refusal::ShortBuffer => 16,
-        }
+        self as u8
     }
 }
 
@@ -107,10 +98,9 @@ pub enum Call<'a> {
     Sheet(usize),
 }
 
-/// What a call answers.
+/// What a call that is not refused answers.
 #[derive(Drop, Debug, PartialEq)]
 pub enum Answer {
-    Refused(Refusal),
     Loaded,
     /// Whether the pair turned now.
     Pinned(bool),

@@ -1,5 +1,5 @@
 -- Lists of calls.
-use Rattle.std.proofs.Common.{◌≡◌, ℕ, ◌+◌, ◌-◌, ◌<◌, ◌≤◌, min, Bool, cond, leb, ◌⊎◌, List, [], ◌∷◌, ◌++◌, length, get_or, take, drop, sym, refl, ap, ◌∙◌, subst, ap₂, inl, inr, append_assoc, append-nil, arith, length-append, take_all}
+use Rattle.std.proofs.Common.{◌≡◌, ℕ, ◌+◌, ◌-◌, ◌<◌, ◌≤◌, min, Result, Bool, cond, leb, ◌⊎◌, List, [], ◌∷◌, ◌++◌, length, get_or, take, drop, sym, refl, ap, ◌∙◌, subst, ap₂, inl, inr, append_assoc, append-nil, arith, length-append, take_all}
 use mathlib.Core.List.{map-append}
 use lib.Seq.{take-append-le}
 use Rattle.std.proofs.lemmas.List.{take_more, drop_more, drop_all}
@@ -9,9 +9,10 @@ use Rattle.semantics.specs.declared.Pair.{Pair}
 use Rattle.semantics.specs.declared.Call.{Call}
 use Rattle.semantics.specs.declared.Call.TheVariants.{Sheet}
 use Rattle.semantics.specs.declared.Answer.{Answer}
+use Rattle.semantics.specs.declared.Refusal.{Refusal}
 use Rattle.semantics.specs.Lts.{Lts}
 use Rattle.semantics.specs.Plain.{page, PlainCall, sheet, PlainAnswer, refused, written, Plain, no_book, book, answer_to, after, Allowed, Event, Leads, nothing, next}
-use Rattle.semantics.specs.Calls.{call_of, answer_of, Makes}
+use Rattle.semantics.specs.Calls.{call_of, reply_of, Makes}
 use Rattle.semantics.proofs.Runs.{all_runs, leads_append}
 use Rattle.lts.specs.Source as source
 use Rattle.board.specs.State.{State}
@@ -124,36 +125,36 @@ module _ (A : source.Answers) (F : Lts) (shows : source.Shows A F) (d : Fixpoint
 
 -- Calls in turn
 
-makes_more : (es : List Event) (cs : List Call) (rs : List Answer) (c : Call) (ps : List Pair) (r : Answer) → Makes es cs rs → Makes (es ++ event (call_of c) ps (answer_of r) ∷ []) (cs ++ c ∷ []) (rs ++ r ∷ [])
+makes_more : (es : List Event) (cs : List Call) (rs : List (Result Answer Refusal)) (c : Call) (ps : List Pair) (r : Result Answer Refusal) → Makes es cs rs → Makes (es ++ event (call_of c) ps (reply_of r) ∷ []) (cs ++ c ∷ []) (rs ++ r ∷ [])
 makes_more es cs rs c ps r m = record {
-  called = map-append (λ (e : Event). e.call) es (event (call_of c) ps (answer_of r) ∷ []) ∙ ap (λ (xs : List PlainCall). xs ++ call_of c ∷ []) m.called ∙ sym (map-append call_of cs (c ∷ []));
-  answered = map-append (λ (e : Event). e.answer) es (event (call_of c) ps (answer_of r) ∷ []) ∙ ap (λ (xs : List PlainAnswer). xs ++ answer_of r ∷ []) m.answered ∙ sym (map-append answer_of rs (r ∷ []));
+  called = map-append (λ (e : Event). e.call) es (event (call_of c) ps (reply_of r) ∷ []) ∙ ap (λ (xs : List PlainCall). xs ++ call_of c ∷ []) m.called ∙ sym (map-append call_of cs (c ∷ []));
+  answered = map-append (λ (e : Event). e.answer) es (event (call_of c) ps (reply_of r) ∷ []) ∙ ap (λ (xs : List PlainAnswer). xs ++ reply_of r ∷ []) m.answered ∙ sym (map-append reply_of rs (r ∷ []));
 }
 
 module _ (F : Lts) (d : Fixpoint) where
-  pub replays_none : (σ : State) (rs : List Answer) → rs ≡ [] → Replays F d σ [] rs σ
-  replays_none σ rs e = subst (λ (rs : List Answer). Replays F d σ [] rs σ) (sym e) (record {
+  pub replays_none : (σ : State) (rs : List (Result Answer Refusal)) → rs ≡ [] → Replays F d σ [] rs σ
+  replays_none σ rs e = subst (λ (rs : List (Result Answer Refusal)). Replays F d σ [] rs σ) (sym e) (record {
     continues = λ es p h.
         let st = subst (λ (xs : List Event). StandsFor F d σ xs p) (sym (append-nil es)) h in
         ([], p, record { called = refl; answered = refl }, st, all_runs F d (es ++ []) p st.leads);
   })
 
-  pub replays_more : (σ τ υ : State) (cs : List Call) (i : ℕ) (c : Call) (rs rs' : List Answer) (r : Answer) → i < length cs → rs' ≡ rs ++ r ∷ [] → Replays F d σ (take i cs) rs τ → Answers F d τ (call_of (get_or cs i c)) (answer_of r) υ → Replays F d σ (take (i + 1) cs) rs' υ
+  pub replays_more : (σ τ υ : State) (cs : List Call) (i : ℕ) (c : Call) (rs rs' : List (Result Answer Refusal)) (r : Result Answer Refusal) → i < length cs → rs' ≡ rs ++ r ∷ [] → Replays F d σ (take i cs) rs τ → Answers F d τ (call_of (get_or cs i c)) (reply_of r) υ → Replays F d σ (take (i + 1) cs) rs' υ
   replays_more σ τ υ cs i c rs rs' r l e before one =
       rw (take_more cs i c l, e) (record {
         continues = λ es p h.
             let (more, q, m, st, _) = before.continues es p h in
             let (ps, t, st') = one.continues (es ++ more) q st in
-            let x = event (call_of (get_or cs i c)) ps (answer_of r) in
+            let x = event (call_of (get_or cs i c)) ps (reply_of r) in
             let so = subst (λ (xs : List Event). StandsFor F d υ xs t) (append_assoc es more (x ∷ [])) st' in
             (more ++ x ∷ [], t, makes_more more (take i cs) rs (get_or cs i c) ps r m, so, all_runs F d (es ++ (more ++ x ∷ [])) t so.leads);
       })
 
-  pub replays_all : (σ τ : State) (cs : List Call) (i : ℕ) (rs : List Answer) → length cs ≤ i → Replays F d σ (take i cs) rs τ → Replays F d σ cs rs τ
+  pub replays_all : (σ τ : State) (cs : List Call) (i : ℕ) (rs : List (Result Answer Refusal)) → length cs ≤ i → Replays F d σ (take i cs) rs τ → Replays F d σ cs rs τ
   replays_all σ τ cs i rs l h = subst (λ (xs : List Call). Replays F d σ xs rs τ) (take_all i cs l) h
 
   -- from a new session on
-  begun : (σ τ : State) (cs : List Call) (rs : List Answer) → StandsFor F d σ [] no_book → Replays F d σ cs rs τ → Begins F d cs rs τ
+  begun : (σ τ : State) (cs : List Call) (rs : List (Result Answer Refusal)) → StandsFor F d σ [] no_book → Replays F d σ cs rs τ → Begins F d cs rs τ
   begun σ τ cs rs h r = let (es, q, m, st, law) = r.continues [] no_book h in record { history = es; plain = q; makes = m; stands = st; law = law }
 
 -- what a call does over a source that is the same
@@ -161,5 +162,5 @@ pub same_source : {X : Type 0} (ready : X → Type 0) (mean : X → Lts) (x y : 
 same_source {X} ready mean x y d σ c a τ e h r = subst (λ (z : X). Answers (mean z) d σ c a τ) e (h (subst ready (sym e) r))
 
 -- and a list of calls from a new session on
-pub begun_over : {X : Type 0} (ready : X → Type 0) (mean : X → Lts) (x y : X) (d : Fixpoint) (σ τ : State) (cs : List Call) (rs : List Answer) → y ≡ x → StandsFor (mean y) d σ [] no_book → (ready y → Replays (mean y) d σ cs rs τ) → ready x → Begins (mean x) d cs rs τ
+pub begun_over : {X : Type 0} (ready : X → Type 0) (mean : X → Lts) (x y : X) (d : Fixpoint) (σ τ : State) (cs : List Call) (rs : List (Result Answer Refusal)) → y ≡ x → StandsFor (mean y) d σ [] no_book → (ready y → Replays (mean y) d σ cs rs τ) → ready x → Begins (mean x) d cs rs τ
 begun_over {X} ready mean x y d σ τ cs rs e h k r = subst (λ (z : X). Begins (mean z) d cs rs τ) e (begun (mean y) d σ τ cs rs h (k (subst ready (sym e) r)))

@@ -1,9 +1,10 @@
 -- What a session stands for, and what a call of it does.
-use Rattle.std.specs.Prelude.{List, [], ◌∷◌, ◌++◌}
+use Rattle.std.specs.Prelude.{List, [], ◌∷◌, ◌++◌, Result}
 use Rattle.records.specs.declared.Fixpoint.{Fixpoint}
 use Rattle.semantics.specs.declared.Pair.{Pair}
 use Rattle.semantics.specs.declared.Call.{Call}
 use Rattle.semantics.specs.declared.Answer.{Answer}
+use Rattle.semantics.specs.declared.Refusal.{Refusal}
 use Rattle.semantics.specs.Lts.{Lts}
 use Rattle.semantics.specs.Plain.{PlainCall, PlainAnswer, Plain, no_book, Event, Leads}
 use Rattle.semantics.specs.Calls.{Makes}
@@ -29,12 +30,12 @@ pub record Answers (F : Lts) (d : Fixpoint) (σ : State) (c : PlainCall) (a : Pl
 
 -- a list of calls takes the board from σ to τ and gives the answers: whatever history the session stood for, it now stands
 -- for that history and events with these calls and answers, of which the whole law over runs holds
-pub record Replays (F : Lts) (d : Fixpoint) (σ : State) (calls : List Call) (answers : List Answer) (τ : State) : Type 0 where
+pub record Replays (F : Lts) (d : Fixpoint) (σ : State) (calls : List Call) (answers : List (Result Answer Refusal)) (τ : State) : Type 0 where
   pub continues : (es : List Event) (p : Plain) → StandsFor F d σ es p →
       (more : List Event) × (q : Plain) × Makes more calls answers × StandsFor F d τ (es ++ more) q × LawOfRuns F d (es ++ more) q
 
 -- the same of a new session: the calls and answers are a history from the start
-pub record Begins (F : Lts) (d : Fixpoint) (calls : List Call) (answers : List Answer) (τ : State) : Type 0 where
+pub record Begins (F : Lts) (d : Fixpoint) (calls : List Call) (answers : List (Result Answer Refusal)) (τ : State) : Type 0 where
   pub history : List Event
   pub plain : Plain
   pub makes : Makes history calls answers

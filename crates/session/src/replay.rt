@@ -1,5 +1,5 @@
 ghost use Rattle.std.specs.Prelude.{◌≡◌, ℕ, ◌≤◌, IfOk, vec_len, MatchResult};
-ghost use Rattle.semantics.specs.Calls.{call_of, answer_of};
+ghost use Rattle.semantics.specs.Calls.{call_of, reply_of};
 ghost use Rattle.board.specs.View.{view};
 ghost use Rattle.session.specs.Standing.{Answers, Replays, Begins};
 ghost use Rattle.session.specs.Pages.{page_room, Paged};
@@ -7,7 +7,7 @@ ghost use Rattle.session.specs.Pages.{page_room, Paged};
 use crate::session::{Session, Unmade};
 use engine::side::Side;
 use lts::Source;
-use semantics::{Answer, Call};
+use semantics::{Answer, Call, Refusal};
 use std::alloc::{AllocError, Global};
 
 /// No sheet has more bytes.
@@ -39,42 +39,38 @@ fn pages(heap: Global, calls: &[Call]) -> Result<Vec<Vec<u8>>, AllocError>
 
 impl<S: Source, D: Side> Session<S, D> {
     // Makes one call, with a page for the sheet that it may ask for.
-    fn make(&mut self, call: &Call, page: Vec<u8>) -> Answer
+    fn make(&mut self, call: &Call, page: Vec<u8>) -> Result<Answer, Refusal>
         requires { vec_len page ≡ page_room call.now }
-        ensures call { S.Source.ready self.old.source → Answers (S.Source.meaning self.old.source) D.Side.fixpoint (view self.old.board) (call_of call.now) (answer_of result) (view self.new.board) }
+        ensures call { S.Source.ready self.old.source → Answers (S.Source.meaning self.old.source) D.Side.fixpoint (view self.old.board) (call_of call.now) (reply_of result) (view self.new.board) }
         ensures kept { (self.new.source ≡ self.old.source) × (self.new.side ≡ self.old.side) }
     {
-        let mut page = page;
         match call {
-            Call::Load(records) => match self.load(records) {
-                Ok(()) => Answer::Loaded,
-                Err(why) => Answer::Refused(why),
-            },
-            Call::Pin(s, i) => match self.pin(*s, *i) {
-                Ok(turned) => Answer::Pinned(turned),
-                Err(why) => Answer::Refused(why),
-            },
-            Call::Run(budget) => match self.run(*budget) {
-                Ok((settled, taken, looks)) => Answer::Ran(settled, taken, looks),
-                Err(why) => Answer::Refused(why),
-            },
-            Call::Query(s, i) => match self.query(*s, *i) {
-                Ok((mark, pinned)) => Answer::Told(mark, pinned),
-                Err(why) => Answer::Refused(why),
-            },
-            Call::Sheet(_) => match self.sheet(&mut page) {
-                Ok(length) => {
-                    page.truncate(length);
-                    Answer::Written(page)
-                }
-                Err(why) => Answer::Refused(why),
-            },
+            Call::Load(records) => self.load(records).map(|()| Answer::Loaded),
+            Call::Pin(s, i) => self.pin(*s, *i).map(Answer::Pinned),
+            Call::Run(budget) => {
+                let (settled, taken, looks) = self.run(*budget)?;
+                Ok(Answer::Ran(settled, taken, looks))
+            }
+            Call::Query(s, i) => {
+                let (mark, pinned) = self.query(*s, *i)?;
+                Ok(Answer::Told(mark, pinned))
+            }
+            Call::Sheet(_) => {
+                let mut page = page;
+                let length = self.sheet(&mut page)?;
+                page.truncate(length);
+                Ok(Answer::Written(page))
+            }
         }
     }
 
     /// Makes each call in turn, and hands back the answers. All memory is claimed before the first call; where there is
     /// none, nothing has changed.
-    pub fn replay(&mut self, heap: Global, calls: &[Call]) -> Result<Vec<Answer>, AllocError>
+    pub fn replay(
+        &mut self,
+        heap: Global,
+        calls: &[Call],
+    ) -> Result<Vec<Result<Answer, Refusal>>, AllocError>
         ensures law { MatchResult result (λ v. S.Source.ready self.old.source → Replays (S.Source.meaning self.old.source) D.Side.fixpoint (view self.old.board) calls.now v.items (view self.new.board)) (λ _. self.new.board ≡ self.old.board) }
         ensures kept { (self.new.source ≡ self.old.source) × (self.new.side ≡ self.old.side) }
     {
@@ -98,7 +94,7 @@ pub fn replay_new<S: Source, D: Side>(
     source: S,
     side: D,
     calls: &[Call],
-) -> Result<(Session<S, D>, Vec<Answer>), Unmade<S, D>>
+) -> Result<(Session<S, D>, Vec<Result<Answer, Refusal>>), Unmade<S, D>>
     ensures kept { MatchResult result (λ x. (x.0.source ≡ source) × (x.0.side ≡ side)) (λ e. (e.source ≡ source) × (e.side ≡ side)) }
     ensures law { S.Source.ready source → IfOk result (λ x. Begins (S.Source.meaning source) D.Side.fixpoint calls.now x.1.items (view x.0.board)) }
 {
@@ -123,7 +119,7 @@ mod tests {
     use engine::side::Greatest;
     use lts::queue::Queue;
     use records::EquationRecord;
-    use semantics::{Mark, Refusal};
+    use semantics::Mark;
 
     // Variable 1 is false and 0 is it or it: at each of two states, both pairs are taken, with 3 looks and with 1.
     #[test]
@@ -159,14 +155,14 @@ mod tests {
             &rt, "memory",
         );
         assert_eq!(rt; answers.len(), 9);
-        assert_eq!(rt; answers[0], Answer::Refused(Refusal::NoBook));
-        assert_eq!(rt; answers[1], Answer::Loaded);
-        assert_eq!(rt; answers[2], Answer::Ran(false, 1, 3));
-        assert_eq!(rt; answers[3], Answer::Ran(true, 3, 5));
-        assert_eq!(rt; answers[4], Answer::Told(Mark::Lost, false));
-        assert_eq!(rt; answers[5], Answer::Pinned(false));
-        assert_eq!(rt; answers[6], Answer::Refused(Refusal::NoPair));
-        assert_eq!(rt; answers[7], Answer::Refused(Refusal::ShortBuffer));
-        assert_eq!(rt; answers[8], Answer::Written(sheet));
+        assert_eq!(rt; answers[0], Err(Refusal::NoBook));
+        assert_eq!(rt; answers[1], Ok(Answer::Loaded));
+        assert_eq!(rt; answers[2], Ok(Answer::Ran(false, 1, 3)));
+        assert_eq!(rt; answers[3], Ok(Answer::Ran(true, 3, 5)));
+        assert_eq!(rt; answers[4], Ok(Answer::Told(Mark::Lost, false)));
+        assert_eq!(rt; answers[5], Ok(Answer::Pinned(false)));
+        assert_eq!(rt; answers[6], Err(Refusal::NoPair));
+        assert_eq!(rt; answers[7], Err(Refusal::ShortBuffer));
+        assert_eq!(rt; answers[8], Ok(Answer::Written(sheet)));
     }
 }
