@@ -1,6 +1,5 @@
 ghost use Rattle.std.specs.Prelude.{◌≡◌, length};
 ghost use Rattle.semantics.specs.Plain.{load, pin, run, query, sheet};
-ghost use Rattle.board.specs.View.{view};
 ghost use Rattle.session.specs.Standing.{Answers};
 ghost use Rattle.session.specs.Replies.{load_reply, pin_reply, run_reply, query_reply, sheet_reply, RestKept};
 
@@ -18,7 +17,7 @@ use sheet::lines::write;
 impl<S: Source, D: Side> Session<S, D> {
     /// Loads a book of equations. Pins, pairs taken and looks of an earlier one are dropped.
     pub fn load(&mut self, records: &[EquationRecord]) -> Result<(), Refusal>
-        ensures call { S.Source.ready self.old.source → Answers (S.Source.meaning self.old.source) D.Side.fixpoint (view self.old.board) (load records.now) (load_reply result) (view self.new.board) }
+        ensures call { S.ready self.old.source → Answers (S.meaning self.old.source) D.FIXPOINT self.old.board (load records.now) (load_reply result) self.new.board }
         ensures kept { (self.new.source ≡ self.old.source) × (self.new.side ≡ self.old.side) }
     {
         if !proper(&self.source, records) {
@@ -33,7 +32,7 @@ impl<S: Source, D: Side> Session<S, D> {
 
     /// Pins a pair, and says whether it turned now.
     pub fn pin(&mut self, s: u16, i: u16) -> Result<bool, Refusal>
-        ensures call { S.Source.ready self.old.source → Answers (S.Source.meaning self.old.source) D.Side.fixpoint (view self.old.board) (pin s i) (pin_reply result) (view self.new.board) }
+        ensures call { S.ready self.old.source → Answers (S.meaning self.old.source) D.FIXPOINT self.old.board (pin s i) (pin_reply result) self.new.board }
         ensures kept { (self.new.source ≡ self.old.source) × (self.new.side ≡ self.old.side) }
     {
         let at = self.board.place(s, i)?;
@@ -44,7 +43,7 @@ impl<S: Source, D: Side> Session<S, D> {
 
     /// Takes waiting pairs, `budget` at most: whether the session is settled then, the pairs taken and the looks made.
     pub fn run(&mut self, budget: u16) -> Result<(bool, u16, u64), Refusal>
-        ensures call { S.Source.ready self.old.source → Answers (S.Source.meaning self.old.source) D.Side.fixpoint (view self.old.board) (run budget) (run_reply result) (view self.new.board) }
+        ensures call { S.ready self.old.source → Answers (S.meaning self.old.source) D.FIXPOINT self.old.board (run budget) (run_reply result) self.new.board }
         ensures kept { (self.new.source ≡ self.old.source) × (self.new.side ≡ self.old.side) }
     {
         if !self.board.loaded() {
@@ -60,7 +59,7 @@ impl<S: Source, D: Side> Session<S, D> {
 
     /// The mark of a pair, and whether it is pinned.
     pub fn query(&self, s: u16, i: u16) -> Result<(Mark, bool), Refusal>
-        ensures { S.Source.ready self.now.source → Answers (S.Source.meaning self.now.source) D.Side.fixpoint (view self.now.board) (query s i) (query_reply result) (view self.now.board) }
+        ensures { S.ready self.now.source → Answers (S.meaning self.now.source) D.FIXPOINT self.now.board (query s i) (query_reply result) self.now.board }
     {
         let at = self.board.place(s, i)?;
         let on = self.board.turned_at(at) != D::starts_on();
@@ -71,7 +70,7 @@ impl<S: Source, D: Side> Session<S, D> {
     /// Writes the mark sheet at the front of the buffer, and says how long it is; or refuses, and leaves the buffer
     /// untouched.
     pub fn sheet(&self, out: &mut [u8]) -> Result<usize, Refusal>
-        ensures call { S.Source.ready self.now.source → Answers (S.Source.meaning self.now.source) D.Side.fixpoint (view self.now.board) (sheet (length out.old)) (sheet_reply out.new result) (view self.now.board) }
+        ensures call { S.ready self.now.source → Answers (S.meaning self.now.source) D.FIXPOINT self.now.board (sheet (length out.old)) (sheet_reply out.new result) self.now.board }
         ensures rest { RestKept out.old out.new result }
     {
         if !self.board.loaded() {

@@ -1,6 +1,5 @@
 ghost use Rattle.std.specs.Prelude.{◌≡◌, ℕ, ◌≤◌, IfOk, vec_len, MatchResult};
 ghost use Rattle.semantics.specs.Calls.{call_of, reply_of};
-ghost use Rattle.board.specs.View.{view};
 ghost use Rattle.session.specs.Standing.{Answers, Replays, Begins};
 ghost use Rattle.session.specs.Pages.{page_room, Paged};
 
@@ -41,7 +40,7 @@ impl<S: Source, D: Side> Session<S, D> {
     // Makes one call, with a page for the sheet that it may ask for.
     fn make(&mut self, call: &Call, page: Vec<u8>) -> Result<Answer, Refusal>
         requires { vec_len page ≡ page_room call.now }
-        ensures call { S.Source.ready self.old.source → Answers (S.Source.meaning self.old.source) D.Side.fixpoint (view self.old.board) (call_of call.now) (reply_of result) (view self.new.board) }
+        ensures call { S.ready self.old.source → Answers (S.meaning self.old.source) D.FIXPOINT self.old.board (call_of call.now) (reply_of result) self.new.board }
         ensures kept { (self.new.source ≡ self.old.source) × (self.new.side ≡ self.old.side) }
     {
         match call {
@@ -71,7 +70,7 @@ impl<S: Source, D: Side> Session<S, D> {
         heap: Global,
         calls: &[Call],
     ) -> Result<Vec<Result<Answer, Refusal>>, AllocError>
-        ensures law { MatchResult result (λ v. S.Source.ready self.old.source → Replays (S.Source.meaning self.old.source) D.Side.fixpoint (view self.old.board) calls.now v.items (view self.new.board)) (λ _. self.new.board ≡ self.old.board) }
+        ensures law { MatchResult result (λ v. S.ready self.old.source → Replays (S.meaning self.old.source) D.FIXPOINT self.old.board calls.now v.items self.new.board) (λ _. self.new.board ≡ self.old.board) }
         ensures kept { (self.new.source ≡ self.old.source) × (self.new.side ≡ self.old.side) }
     {
         let mut pages = pages(heap, calls)?;
@@ -96,7 +95,7 @@ pub fn replay_new<S: Source, D: Side>(
     calls: &[Call],
 ) -> Result<(Session<S, D>, Vec<Result<Answer, Refusal>>), Unmade<S, D>>
     ensures kept { MatchResult result (λ x. (x.0.source ≡ source) × (x.0.side ≡ side)) (λ e. (e.source ≡ source) × (e.side ≡ side)) }
-    ensures law { S.Source.ready source → IfOk result (λ x. Begins (S.Source.meaning source) D.Side.fixpoint calls.now x.1.items (view x.0.board)) }
+    ensures law { S.ready source → IfOk result (λ x. Begins (S.meaning source) D.FIXPOINT calls.now x.1.items x.0.board) }
 {
     let mut session = Session::new(heap, source, side)?;
     match session.replay(heap, calls) {

@@ -1,7 +1,6 @@
 ghost use Rattle.std.specs.Prelude.{◌≡◌, ℕ, ◌+◌, ◌*◌, ◌^◌, ◌<◌, ◌≤◌, not, [], ◌∷◌, length, if◌then◌else◌, codes};
 ghost use Rattle.semantics.specs.Plain.{share, letter};
 ghost use Rattle.board.specs.State.{waiting};
-ghost use Rattle.board.specs.View.{view};
 ghost use Rattle.refinement.specs.Sheet.{on_below, line, lines_below, top, sheet_of};
 ghost use Rattle.sheet.specs.Ink.{Wrote};
 
@@ -23,8 +22,8 @@ fn share(states: usize, marked: usize) -> usize
 
 // The states at which variable `i` is on.
 fn on_states<D: Side>(board: &Board, i: usize) -> usize
-    requires { i < length (view board.now).book }
-    ensures count { result ≡ on_below D.Side.fixpoint (view board.now) i (view board.now).states }
+    requires { i < length board.now.book }
+    ensures count { result ≡ on_below D.FIXPOINT board.now i board.now.states }
     ensures bound { result ≤ 8192 }
 {
     let mut count = 0;
@@ -52,21 +51,21 @@ fn put_line(out: &mut [u8], at: usize, states: usize, i: usize, marked: usize) -
 
 // The side in a sheet.
 fn letter<D: Side>() -> u8
-    ensures { result ∷ [] ≡ letter D.Side.fixpoint }
+    ensures { result ∷ [] ≡ letter D.FIXPOINT }
 {
     if D::starts_on() { b'G' } else { b'L' }
 }
 
 // 1 where no pair waits, else 0.
 fn settled_digit(board: &Board) -> u8
-    ensures { result ∷ [] ≡ (if not (waiting (view board.now)) then codes "1" else codes "0") }
+    ensures { result ∷ [] ≡ (if not (waiting board.now) then codes "1" else codes "0") }
 {
     if board.waiting() { b'0' } else { b'1' }
 }
 
 // The first line.
 fn put_top<D: Side>(out: &mut [u8], board: &Board) -> usize
-    ensures wrote { Wrote out.old 0 (top D.Side.fixpoint (view board.now)) out.new result }
+    ensures wrote { Wrote out.old 0 (top D.FIXPOINT board.now) out.new result }
     ensures bound { result ≤ 100 }
 {
     let a = put_bytes(out, 0, b"M,");
@@ -86,7 +85,7 @@ fn put_top<D: Side>(out: &mut [u8], board: &Board) -> usize
 fn put_lines<D: Side>(out: &mut [u8], at: usize, board: &Board) -> usize
     requires { at ≤ 100 }
     ensures bound { result ≤ 71780 }
-    ensures wrote { Wrote out.old at (lines_below D.Side.fixpoint (view board.now) (length (view board.now).book)) out.new result }
+    ensures wrote { Wrote out.old at (lines_below D.FIXPOINT board.now (length board.now.book)) out.new result }
 {
     let mut next = at;
     for i in 0..board.equations() {
@@ -99,7 +98,7 @@ fn put_lines<D: Side>(out: &mut [u8], at: usize, board: &Board) -> usize
 /// Writes the sheet of a board into the buffer, as far as there is room, and says how long it is.
 pub fn write<D: Side>(board: &Board, out: &mut [u8]) -> usize
     ensures bound { result ≤ 71780 }
-    ensures wrote { Wrote out.old 0 (sheet_of D.Side.fixpoint (view board.now)) out.new result }
+    ensures wrote { Wrote out.old 0 (sheet_of D.FIXPOINT board.now) out.new result }
 {
     let next = put_top::<D>(out, board);
     put_lines::<D>(out, next, board)

@@ -1,6 +1,5 @@
 use Rattle.std.proofs.Common.{vec_len, refl, ◌∙◌, rules}
 use Rattle.semantics.specs.declared.Call.TheVariants.{Pin}
-use Rattle.board.specs.View.{view}
 use Rattle.session.proofs.Replaying.{paged_less, paged_some, replays_none, replays_more, replays_all, same_source}
 use Rattle.session.proofs.session.Session.replay.Goals as goal
 
@@ -21,8 +20,8 @@ loop-call-preserved g c = (
   search rules,
   (paged_less vec_len c.args.calls.now c.loop-call.call-index (Pin 0 0) _ _ _ c.loop-call-test.true c.in-Some.ensures.items c.loop-call.invariant.4).1,
   λ ready.
-      replays_more _ _ _ (view c.loop-call.self.board) _ _ c.loop-call.call-index _ _ _ _ c.loop-call-test.true c.push_reserved.ensures.items (c.loop-call.invariant.5 ready)
-      (same_source g.S.Source.ready g.S.Source.meaning _ _ _ (view c.loop-call.self.board) _ _ _ c.loop-call.invariant.0 c.make-answer.ensures.call ready),
+      replays_more _ _ _ c.loop-call.self.board _ _ c.loop-call.call-index _ _ _ _ c.loop-call-test.true c.push_reserved.ensures.items (c.loop-call.invariant.5 ready)
+      (same_source g.S.Source.ready g.S.Source.meaning _ _ _ c.loop-call.self.board _ _ _ c.loop-call.invariant.0 c.make-answer.ensures.call ready),
 )
 
 pub returns : goal.returns
