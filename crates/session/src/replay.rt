@@ -1,6 +1,7 @@
 ghost use Rattle.std.specs.Prelude.{◌≡◌, ℕ, ◌≤◌, IfOk, vec_len, MatchResult};
 ghost use Rattle.semantics.specs.Calls.{call_of, reply_of};
-ghost use Rattle.session.specs.Standing.{Answers, Replays, Begins};
+ghost use Rattle.session.specs.Sessions.{Kept, Makes};
+ghost use Rattle.session.specs.Standing.{Replays, Begins};
 ghost use Rattle.session.specs.Pages.{page_room, Paged};
 
 use crate::session::{Session, Unmade};
@@ -40,8 +41,8 @@ impl<S: Source, D: Side> Session<S, D> {
     // Makes one call, with a page for the sheet that it may ask for.
     fn make(&mut self, call: &Call, page: Vec<u8>) -> Result<Answer, Refusal>
         requires { vec_len page ≡ page_room call.now }
-        ensures call { S.ready self.old.source → Answers (S.meaning self.old.source) D.FIXPOINT self.old.board (call_of call.now) (reply_of result) self.new.board }
-        ensures kept { (self.new.source ≡ self.old.source) × (self.new.side ≡ self.old.side) }
+        ensures call { Makes S.ready S.meaning D.FIXPOINT self.old (call_of call.now) (reply_of result) self.new }
+        ensures kept { Kept self.old self.new }
     {
         match call {
             Call::Load(records) => self.load(records).map(|()| Answer::Loaded),
@@ -71,7 +72,7 @@ impl<S: Source, D: Side> Session<S, D> {
         calls: &[Call],
     ) -> Result<Vec<Result<Answer, Refusal>>, AllocError>
         ensures law { MatchResult result (λ v. S.ready self.old.source → Replays (S.meaning self.old.source) D.FIXPOINT self.old.board calls.now v.items self.new.board) (λ _. self.new.board ≡ self.old.board) }
-        ensures kept { (self.new.source ≡ self.old.source) × (self.new.side ≡ self.old.side) }
+        ensures kept { Kept self.old self.new }
     {
         let mut pages = pages(heap, calls)?;
         let mut answers = Vec::with_capacity(heap, calls.len())?;

@@ -4,7 +4,7 @@ ghost use Rattle.std.specs.List.{range_with_len};
 ghost use Rattle.semantics.specs.Equations.{start};
 ghost use Rattle.semantics.specs.Plain.{share, letter};
 ghost use Rattle.board.specs.State.{waiting};
-ghost use Rattle.refinement.specs.Sheet.{on_below, line, lines_below, top, sheet_of};
+ghost use Rattle.refinement.specs.Sheet.{line, lines_below, top, sheet_of};
 ghost use Rattle.sheet.specs.Ink.{Wrote};
 ghost use Rattle.sheet.specs.Pens.{Inked};
 
@@ -98,7 +98,6 @@ fn put_lines<D: Side>(pen: &mut Pen, board: &Board)
 }
 
 /// Writes the sheet of a board into the buffer, as far as there is room, and says how long it is.
-#[tactic(auto, unfolding(refinement::specs::Sheet::sheet_of), using(crate::proofs::Inks::pen_then))]
 pub fn write<D: Side>(board: &Board, out: &mut [u8]) -> usize
     ensures bound { result ≤ 71780 }
     ensures wrote { Wrote out.old 0 (sheet_of D.FIXPOINT board.now) out.new result }
