@@ -11,5 +11,5 @@ abbrev pub Kept : {S D : Type 0} → Session S D → Session S D → Type 0
 Kept x y = (y.source ≡ x.source) × (y.side ≡ x.side)
 
 -- over a source that is ready, a call takes the session x to y and gives the answer a
-abbrev pub Makes : {S D : Type 0} → (S → Type 0) → (S → Lts) → Fixpoint → Session S D → PlainCall → PlainAnswer → Session S D → Type 0
-Makes ready meaning d x c a y = ready x.source → Answers (meaning x.source) d x.board c a y.board
+abbrev pub Answered : {S D : Type 0} → (S → Type 0) → (S → Lts) → Fixpoint → Session S D → PlainCall → PlainAnswer → Session S D → Type 0
+Answered ready meaning d x c a y = ready x.source → Answers (meaning x.source) d x.board c a y.board

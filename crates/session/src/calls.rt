@@ -1,6 +1,6 @@
 ghost use Rattle.std.specs.Prelude.{length};
 ghost use Rattle.semantics.specs.Plain.{load, pin, run, query, sheet};
-ghost use Rattle.session.specs.Sessions.{Kept, Makes};
+ghost use Rattle.session.specs.Sessions.{Kept, Answered};
 ghost use Rattle.session.specs.Replies.{load_reply, pin_reply, run_reply, query_reply, sheet_reply, RestKept};
 
 use crate::session::Session;
@@ -17,7 +17,7 @@ use sheet::lines::write;
 impl<S: Source, D: Side> Session<S, D> {
     /// Loads a book of equations. Pins, pairs taken and looks of an earlier one are dropped.
     pub fn load(&mut self, records: &[EquationRecord]) -> Result<(), Refusal>
-        ensures call { Makes S.ready S.meaning D.FIXPOINT self.old (load records.now) (load_reply result) self.new }
+        ensures call { Answered S.ready S.meaning D.FIXPOINT self.old (load records.now) (load_reply result) self.new }
         ensures kept { Kept self.old self.new }
     {
         if !proper(&self.source, records) {
@@ -31,7 +31,7 @@ impl<S: Source, D: Side> Session<S, D> {
 
     /// Pins a pair, and says whether it turned now.
     pub fn pin(&mut self, s: u16, i: u16) -> Result<bool, Refusal>
-        ensures call { Makes S.ready S.meaning D.FIXPOINT self.old (pin s i) (pin_reply result) self.new }
+        ensures call { Answered S.ready S.meaning D.FIXPOINT self.old (pin s i) (pin_reply result) self.new }
         ensures kept { Kept self.old self.new }
     {
         let at = self.board.place(s, i)?;
@@ -42,7 +42,7 @@ impl<S: Source, D: Side> Session<S, D> {
 
     /// Takes waiting pairs, `budget` at most: whether the session is settled then, the pairs taken and the looks made.
     pub fn run(&mut self, budget: u16) -> Result<(bool, u16, u64), Refusal>
-        ensures call { Makes S.ready S.meaning D.FIXPOINT self.old (run budget) (run_reply result) self.new }
+        ensures call { Answered S.ready S.meaning D.FIXPOINT self.old (run budget) (run_reply result) self.new }
         ensures kept { Kept self.old self.new }
     {
         if !self.board.loaded() {
@@ -58,7 +58,7 @@ impl<S: Source, D: Side> Session<S, D> {
 
     /// The mark of a pair, and whether it is pinned.
     pub fn query(&self, s: u16, i: u16) -> Result<(Mark, bool), Refusal>
-        ensures { Makes S.ready S.meaning D.FIXPOINT self.now (query s i) (query_reply result) self.now }
+        ensures { Answered S.ready S.meaning D.FIXPOINT self.now (query s i) (query_reply result) self.now }
     {
         let at = self.board.place(s, i)?;
         let on = self.board.turned_at(at) != starts_on::<D>();
@@ -69,7 +69,7 @@ impl<S: Source, D: Side> Session<S, D> {
     /// Writes the mark sheet at the front of the buffer, and says how long it is; or refuses, and leaves the buffer
     /// untouched.
     pub fn sheet(&self, out: &mut [u8]) -> Result<usize, Refusal>
-        ensures call { Makes S.ready S.meaning D.FIXPOINT self.now (sheet (length out.old)) (sheet_reply out.new result) self.now }
+        ensures call { Answered S.ready S.meaning D.FIXPOINT self.now (sheet (length out.old)) (sheet_reply out.new result) self.now }
         ensures rest { RestKept out.old out.new result }
     {
         if !self.board.loaded() {
