@@ -1,5 +1,5 @@
 pub mod Folds
+pub mod Cells
 pub mod Rooms
 pub mod Books
-pub mod Coming
 pub mod Relinking

@@ -1,7 +1,8 @@
 pub mod Each
 pub mod State
 pub mod Links
+pub mod Decisions
 pub mod Turning
 pub mod Renewing
-pub mod Room
 pub mod View
+pub mod Room

@@ -5,6 +5,7 @@
 #![tactic(auto)]
 
 pub mod board;
+pub mod decisions;
 pub mod links;
 pub mod reads;
 pub mod renewing;

@@ -1,13 +1,13 @@
-ghost use Rattle.std.specs.Prelude.{◌≡◌, ◌*◌, ◌≤◌, Bool, false, length, replicate, IfOk, vec_len, vec_capacity};
+ghost use Rattle.std.specs.Prelude.{◌≡◌, ◌*◌, ◌≤◌, length, replicate, IfOk, vec_len, vec_capacity, if◌then◌else◌};
+ghost use Rattle.semantics.specs.declared.Refusal.TheVariants.{TooManyPairs};
 ghost use Rattle.records.specs.Letters.{form_of};
 ghost use Rattle.semantics.specs.Plain.{equation_of, book_of};
 ghost use Rattle.board.specs.State.{blank};
 ghost use Rattle.board.specs.Renewing.{fresh, room?, renewed};
-ghost use Rattle.board.specs.View.{view};
 
-use crate::board::Board;
+use crate::board::{Board, Cell};
 use records::EquationRecord;
-use semantics::Equation;
+use semantics::{Equation, Refusal};
 use std::alloc::{AllocError, Global};
 
 // Fills with `n` copies of `x`, in the room that there is.
@@ -21,7 +21,7 @@ fn refill<T: Copy>(v: &mut Vec<T>, n: usize, x: T)
     let _ = v.resize(n, x);
 }
 
-// The equation that a record spells; a record of no known form spells none.
+// The equation that a record spells.
 #[tactic(auto, unfolding(semantics::specs::Plain::equation_of))]
 fn read_equation(written: &EquationRecord) -> Equation
     ensures { result ≡ equation_of (form_of written.now.form) written.now.first written.now.second }
@@ -29,7 +29,7 @@ fn read_equation(written: &EquationRecord) -> Equation
     Equation::try_from(*written).unwrap_or(Equation::NONE)
 }
 
-// The equations of the records, in the room that there is.
+// The equations of the records, in the room that there is: `push_reserved` says by type that it claims none.
 fn fill(equations: &mut Vec<Equation>, records: &[EquationRecord])
     requires { length records.now ≤ vec_capacity equations.old }
     ensures items { equations.new.items ≡ book_of records.now }
@@ -45,22 +45,17 @@ fn fill(equations: &mut Vec<Equation>, records: &[EquationRecord])
 impl Board {
     /// A board with no book. All its memory is claimed here.
     pub fn new(heap: Global) -> Result<Board, AllocError>
-        ensures { IfOk result (λ b. view b ≡ blank) }
+        ensures { IfOk result (λ b. b ≡ blank) }
     {
         let equations = Vec::with_capacity(heap, 1024)?;
-        let turned = Vec::with_capacity(heap, 8192)?;
-        let pinned = Vec::with_capacity(heap, 8192)?;
-        let counts = Vec::with_capacity(heap, 8192)?;
+        let cells = Vec::with_capacity(heap, 8192)?;
         let work = Vec::with_capacity(heap, 8192)?;
         let head = Vec::with_capacity(heap, 1024)?;
         let next = Vec::with_capacity(heap, 2048)?;
         Ok(Board {
-            loaded: false,
-            states: 0,
+            states: None,
             equations,
-            turned,
-            pinned,
-            counts,
+            cells,
             work,
             taken: 0,
             looks: 0,
@@ -71,36 +66,40 @@ impl Board {
 
     // The book of the records, with its links, and nothing turned.
     fn renew_within(&mut self, states: usize, records: &[EquationRecord])
-        requires { (states ≤ 8192) × ((length records.now ≤ 1024) × (states * length records.now ≤ 8192)) }
-        ensures { view self.new ≡ fresh states (book_of records.now) }
+        requires few_states { states ≤ 8192 }
+        requires few_equations { length records.now ≤ 1024 }
+        requires few_pairs { states * length records.now ≤ 8192 }
+        ensures { self.new ≡ fresh states (book_of records.now) }
     {
         let n = records.len();
+        let untouched = Cell {
+            turned: false,
+            pinned: false,
+            count: 0,
+        };
         self.work.clear();
-        refill(&mut self.turned, states * n, false);
-        refill(&mut self.pinned, states * n, false);
-        refill(&mut self.counts, states * n, 0);
-        refill(&mut self.head, n, 0);
+        refill(&mut self.cells, states * n, untouched);
+        refill(&mut self.head, n, None);
         self.next.clear();
         fill(&mut self.equations, records);
-        self.loaded = true;
-        self.states = states;
+        self.states = Some(states);
         self.taken = 0;
         self.looks = 0;
         self.link_all();
     }
 
-    /// The book of the records, with its links, and nothing turned; or, where there is no room for it, `false` and no
+    /// The book of the records, with its links, and nothing turned; or, where there is no room for it, a refusal and no
     /// change.
-    pub fn renew(&mut self, states: usize, records: &[EquationRecord]) -> bool
-        ensures answer { result ≡ room? states (length records.now) }
-        ensures after { view self.new ≡ renewed states records.now (view self.old) }
+    #[tactic(auto, unfolding(crate::specs::Renewing::renewed))]
+    pub fn renew(&mut self, states: usize, records: &[EquationRecord]) -> Result<(), Refusal>
+        ensures answer { result ≡ (if room? states (length records.now) then Ok tt else Err TooManyPairs) }
+        ensures after { self.new ≡ renewed states records.now self.old }
     {
         let n = records.len();
-        if states <= 8192 && n <= 1024 && states * n <= 8192 {
-            self.renew_within(states, records);
-            true
-        } else {
-            false
+        if states > 8192 || n > 1024 || states * n > 8192 {
+            return Err(Refusal::TooManyPairs);
         }
+        self.renew_within(states, records);
+        Ok(())
     }
 }

@@ -1,6 +1,7 @@
 ghost use Rattle.std.specs.Prelude.{◌≡◌, length};
+ghost use Rattle.std.specs.List.{list_all};
 ghost use Rattle.records.specs.Letters.{form_of};
-ghost use Rattle.semantics.specs.Plain.{well_formed, all_well_formed, proper, fits};
+ghost use Rattle.semantics.specs.Plain.{well_formed, proper, fits};
 ghost use Rattle.refinement.specs.Calls.{sized};
 
 use lts::Source;
@@ -9,7 +10,7 @@ use records::{EquationRecord, Form};
 // Whether the form is known, its places name what is there among `n` variables, and unused ones are 0.
 #[tactic(auto, unfolding(semantics::specs::Plain::well_formed))]
 fn well_formed<S: Source>(source: &S, n: usize, written: &EquationRecord) -> bool
-    ensures { result ≡ well_formed (sized (S.Source.answers source.now)) n (form_of written.now.form) written.now.first written.now.second }
+    ensures { result ≡ well_formed (sized (S.answers source.now)) n (form_of written.now.form) written.now.first written.now.second }
 {
     let first = usize::from(written.first);
     let second = usize::from(written.second);
@@ -24,26 +25,25 @@ fn well_formed<S: Source>(source: &S, n: usize, written: &EquationRecord) -> boo
 
 // Whether each of the records is well-formed.
 fn all_well_formed<S: Source>(source: &S, records: &[EquationRecord]) -> bool
-    ensures { result ≡ all_well_formed (sized (S.Source.answers source.now)) (length records.now) records.now }
+    ensures { result ≡ list_all (λ r. well_formed (sized (S.answers source.now)) (length records.now) (form_of r.form) r.first r.second) records.now }
 {
-    for written in records {
-        if !well_formed(source, records.len(), written) {
-            return false;
-        }
-    }
-    true
+    records
+        .iter()
+        .all(|written| well_formed(source, records.len(), written))
 }
 
 /// Whether there are 1 to 1,024 records, each well-formed.
+#[tactic(auto, unfolding(semantics::specs::Plain::proper), using(crate::proofs::Remaining::all_listed))]
 pub fn proper<S: Source>(source: &S, records: &[EquationRecord]) -> bool
-    ensures { result ≡ proper (sized (S.Source.answers source.now)) records.now }
+    ensures { result ≡ proper (sized (S.answers source.now)) records.now }
 {
-    records.len() >= 1 && records.len() <= 1024 && all_well_formed(source, records)
+    (1..=1024).contains(&records.len()) && all_well_formed(source, records)
 }
 
 /// Whether there are at most 8,192 pairs.
+#[tactic(auto, unfolding(semantics::specs::Plain::fits))]
 pub fn fits<S: Source>(source: &S, records: &[EquationRecord]) -> bool
-    ensures { result ≡ fits (sized (S.Source.answers source.now)) records.now }
+    ensures { result ≡ fits (sized (S.answers source.now)) records.now }
 {
     source.states().saturating_mul(records.len()) <= 8192
 }

@@ -6,7 +6,7 @@ use Rattle.records.specs.declared.Fixpoint.{Fixpoint}
 use Rattle.records.specs.declared.EquationRecord.{EquationRecord}
 use Rattle.semantics.specs.declared.Mark.{Mark}
 use Rattle.semantics.specs.declared.Refusal.{Refusal}
-use Rattle.semantics.specs.declared.Refusal.TheVariants.{NoBook, NoPair}
+use Rattle.semantics.specs.declared.Refusal.TheVariants.{NoBook, NoPair, TooManyPairs}
 use Rattle.semantics.specs.Lts.{Lts}
 use Rattle.semantics.specs.Equations.{start}
 use Rattle.semantics.specs.Plain.{book_of, proper, fits, mark_of, PlainCall, load, pin, run, query, sheet, PlainAnswer, refused, loaded, pinned, ran, told, written, no_book, after, Leads, nothing, next}
@@ -26,7 +26,7 @@ use Rattle.sheet.specs.Ink.{Wrote}
 use Rattle.sheet.proofs.Inks.{inked_take, inked_drop}
 use Rattle.sheet.proofs.Writing.{turned_on}
 use Rattle.session.specs.Standing.{StandsFor, event, Answers}
-use Rattle.session.specs.Replies.{pin_reply, query_reply}
+use Rattle.session.specs.Replies.{load_reply, pin_reply, query_reply}
 
 -- a new session
 pub begins : (F : Lts) (d : Fixpoint) (σ : State) → σ ≡ blank → StandsFor F d σ [] no_book
@@ -88,11 +88,13 @@ module _ (A : source.Answers) (F : Lts) (shows : source.Shows A F) (d : Fixpoint
       answers σ (load rs) (refused 12) (sym (ap₂ (λ (a b : Bool). cond (a && b) (begun A d (book_of rs)) σ) e f))
       (sym (ap₂ (λ (a b : Bool). cond a (cond b loaded (refused 12)) (refused 13)) e f))
 
-  pub loads : (rs : List EquationRecord) (τ : State) → proper (sized A) rs ≡ true → fits (sized A) rs ≡ true → τ ≡ cond (room? A.states (length rs)) (begun A d (book_of rs)) σ → Answers F d σ (load rs) loaded τ
+  pub loads : (rs : List EquationRecord) (r : Result (Unit {0}) Refusal) (τ : State) → proper (sized A) rs ≡ true → fits (sized A) rs ≡ true → r ≡ cond (room? A.states (length rs)) (Ok tt) (Err TooManyPairs) →
+      τ ≡ cond (room? A.states (length rs)) (begun A d (book_of rs)) σ → Answers F d σ (load rs) (load_reply r) τ
   unfolding stepped told_by
-  loads rs τ e f g =
-      answers τ (load rs) loaded (g ∙ cond-true (room? A.states (length rs)) _ _ (roomy A rs e f) ∙ sym (ap₂ (λ (a b : Bool). cond (a && b) (begun A d (book_of rs)) σ) e f))
-      (sym (ap₂ (λ (a b : Bool). cond a (cond b loaded (refused 12)) (refused 13)) e f))
+  loads rs r τ e f k g =
+      let room = roomy A rs e f in
+      answers τ (load rs) (load_reply r) (g ∙ cond-true (room? A.states (length rs)) _ _ room ∙ sym (ap₂ (λ (a b : Bool). cond (a && b) (begun A d (book_of rs)) σ) e f))
+      (ap load_reply (k ∙ cond-true (room? A.states (length rs)) _ _ room) ∙ sym (ap₂ (λ (a b : Bool). cond a (cond b loaded (refused 12)) (refused 13)) e f))
 
   -- pin
   pub unpinned : (s i : ℕ) (r : Result Bool Refusal) (e : Refusal) → r ≡ Err e → place_of σ s i ≡ Err e → Answers F d σ (pin s i) (pin_reply r) σ

@@ -1,8 +1,7 @@
 -- Lists of calls.
-use Rattle.std.proofs.Common.{◌≡◌, ℕ, ◌+◌, ◌-◌, ◌<◌, ◌≤◌, min, Result, Bool, cond, leb, ◌⊎◌, List, [], ◌∷◌, ◌++◌, length, get_or, take, drop, sym, refl, ap, ◌∙◌, subst, ap₂, inl, inr, append_assoc, append-nil, arith, length-append, take_all}
+use Rattle.std.proofs.Common.{◌≡◌, ℕ, ◌<◌, ◌≤◌, min, Result, Bool, cond, leb, ◌⊎◌, List, [], ◌∷◌, ◌++◌, length, take, drop, sym, refl, ap, ◌∙◌, subst, inl, inr, append_assoc, append-nil, arith, take_all}
 use mathlib.Core.List.{map-append}
 use lib.Seq.{take-append-le}
-use Rattle.std.proofs.lemmas.List.{take_more, drop_more, drop_all}
 use Rattle.std.proofs.lemmas.Bool.{le-leb, lt-leb, cases_lt}
 use Rattle.records.specs.declared.Fixpoint.{Fixpoint}
 use Rattle.semantics.specs.declared.Pair.{Pair}
@@ -18,52 +17,8 @@ use Rattle.lts.specs.Source as source
 use Rattle.board.specs.State.{State}
 use Rattle.refinement.specs.Represents.{Represents}
 use Rattle.session.specs.Standing.{StandsFor, event, Answers, Replays, Begins}
-use Rattle.session.specs.Pages.{page_room, Paged}
+use Rattle.session.specs.Pages.{page_room}
 use Rattle.session.proofs.Lengths.{shown_long}
-
--- Pages
-
--- none for no call
-pub paged_none : {X : Type 0} (long : X → ℕ) (cs : List Call) (ps : List X) → Paged long (drop (length cs) cs) ps
-unfolding Paged
-paged_none {X} long cs ps = subst (λ (xs : List Call). Paged long xs ps) (sym (drop_all (length cs) cs (omega arith))) tt
-
--- one page more, for the call before
-pub paged_more : {X : Type 0} (long : X → ℕ) (cs : List Call) (i : ℕ) (c : Call) (ps ps' : List X) (p : X) → 0 < i → i ≤ length cs → ps' ≡ ps ++ p ∷ [] → long p ≡ page_room (get_or cs (i - 1) c) → Paged long (drop i cs) ps → Paged long (drop (i - 1) cs) ps'
-unfolding Paged
-paged_more {X} long cs i c ps ps' p some l e f h =
-    let back : i ≡ (i - 1) + 1 = omega arith in
-    subst (λ (xs : List Call). Paged long xs ps') (sym (drop_more cs (i - 1) c (omega arith))) (ps, p, e, f, subst (λ (j : ℕ). Paged long (drop j cs) ps) back h)
-
--- a page for every call
-pub paged_all : {X : Type 0} (long : X → ℕ) (cs : List Call) (i : ℕ) (ps : List X) → i ≤ 0 → Paged long (drop i cs) ps → Paged long cs ps
-paged_all {X} long cs i ps l h = let e : i ≡ 0 = omega arith in subst (λ (j : ℕ). Paged long (drop j cs) ps) e h
-
--- what is pushed last is what is there last
-last_same : {X : Type 0} (ps qs : List X) (p q : X) → ps ++ p ∷ [] ≡ qs ++ q ∷ [] → (ps ≡ qs) × (p ≡ q)
-last_same [] [] p q e = (refl, cc)
-last_same [] (y ∷ []) p q e = let z : ◌≡◌ {A = ℕ} 1 2 = ap (λ xs. length xs) e in absurd (omega arith)
-last_same [] (y ∷ y' ∷ ys) p q e = let z = ap (λ xs. length xs) e in absurd (omega arith)
-last_same (x ∷ []) [] p q e = let z = ap (λ xs. length xs) e in absurd (omega arith)
-last_same (x ∷ x' ∷ xs) [] p q e = let z = ap (λ xs. length xs) e in absurd (omega arith)
-last_same (x ∷ xs) (y ∷ ys) p q e = let a : x ≡ y = cc in let b : xs ++ p ∷ [] ≡ ys ++ q ∷ [] = cc in let r = last_same xs ys p q b in (ap₂ (λ h t. h ∷ t) a r.0, r.1)
-
--- the page that is taken is the next call's
-pub paged_less : {X : Type 0} (long : X → ℕ) (cs : List Call) (i : ℕ) (c : Call) (ps ps' : List X) (p : X) → i < length cs → ps ≡ ps' ++ p ∷ [] → Paged long (drop i cs) ps → (long p ≡ page_room (get_or cs i c)) × Paged long (drop (i + 1) cs) ps'
-unfolding Paged
-paged_less {X} long cs i c ps ps' p l e h =
-    let (qs, q, f, g, k) = subst (λ (xs : List Call). Paged long xs ps) (drop_more cs i c l) h in
-    let r = last_same qs ps' q p (sym f ∙ e) in
-    (ap long (sym r.1) ∙ g, subst (Paged long (drop (i + 1) cs)) r.0 k)
-
--- there is one
-pub paged_some : {X : Type 0} (long : X → ℕ) (cs : List Call) (i : ℕ) (c : Call) (ps : List X) → i < length cs → length ps ≡ 0 → Paged long (drop i cs) ps → ⊥
-unfolding Paged
-paged_some {X} long cs i c ps l e h =
-    let (qs, q, f, g, k) = subst (λ (xs : List Call). Paged long xs ps) (drop_more cs i c l) h in
-    let a = ap (λ xs. length xs) f in
-    let b = length-append qs (q ∷ []) in
-    omega arith
 
 -- A longer buffer
 
@@ -139,19 +94,19 @@ module _ (F : Lts) (d : Fixpoint) where
         ([], p, record { called = refl; answered = refl }, st, all_runs F d (es ++ []) p st.leads);
   })
 
-  pub replays_more : (σ τ υ : State) (cs : List Call) (i : ℕ) (c : Call) (rs rs' : List (Result Answer Refusal)) (r : Result Answer Refusal) → i < length cs → rs' ≡ rs ++ r ∷ [] → Replays F d σ (take i cs) rs τ → Answers F d τ (call_of (get_or cs i c)) (reply_of r) υ → Replays F d σ (take (i + 1) cs) rs' υ
-  replays_more σ τ υ cs i c rs rs' r l e before one =
-      rw (take_more cs i c l, e) (record {
+  pub replays_more : (σ τ υ : State) (cs cs' : List Call) (c : Call) (rs rs' : List (Result Answer Refusal)) (r : Result Answer Refusal) → cs' ≡ cs ++ c ∷ [] → rs' ≡ rs ++ r ∷ [] → Replays F d σ cs rs τ → Answers F d τ (call_of c) (reply_of r) υ → Replays F d σ cs' rs' υ
+  replays_more σ τ υ cs cs' c rs rs' r f e before one =
+      rw (f, e) (record {
         continues = λ es p h.
             let (more, q, m, st, _) = before.continues es p h in
             let (ps, t, st') = one.continues (es ++ more) q st in
-            let x = event (call_of (get_or cs i c)) ps (reply_of r) in
+            let x = event (call_of c) ps (reply_of r) in
             let so = subst (λ (xs : List Event). StandsFor F d υ xs t) (append_assoc es more (x ∷ [])) st' in
-            (more ++ x ∷ [], t, makes_more more (take i cs) rs (get_or cs i c) ps r m, so, all_runs F d (es ++ (more ++ x ∷ [])) t so.leads);
+            (more ++ x ∷ [], t, makes_more more cs rs c ps r m, so, all_runs F d (es ++ (more ++ x ∷ [])) t so.leads);
       })
 
-  pub replays_all : (σ τ : State) (cs : List Call) (i : ℕ) (rs : List (Result Answer Refusal)) → length cs ≤ i → Replays F d σ (take i cs) rs τ → Replays F d σ cs rs τ
-  replays_all σ τ cs i rs l h = subst (λ (xs : List Call). Replays F d σ xs rs τ) (take_all i cs l) h
+  pub replays_all : (σ τ : State) (cs cs' : List Call) (rs : List (Result Answer Refusal)) → cs ≡ cs' → Replays F d σ cs rs τ → Replays F d σ cs' rs τ
+  replays_all σ τ cs cs' rs e h = subst (λ (xs : List Call). Replays F d σ xs rs τ) e h
 
   -- from a new session on
   begun : (σ τ : State) (cs : List Call) (rs : List (Result Answer Refusal)) → StandsFor F d σ [] no_book → Replays F d σ cs rs τ → Begins F d cs rs τ

@@ -1,14 +1,13 @@
-ghost use Rattle.std.specs.Prelude.{◌≡◌, length};
+ghost use Rattle.std.specs.Prelude.{length};
 ghost use Rattle.semantics.specs.Plain.{load, pin, run, query, sheet};
-ghost use Rattle.board.specs.View.{view};
-ghost use Rattle.session.specs.Standing.{Answers};
+ghost use Rattle.session.specs.Sessions.{Kept, Answered};
 ghost use Rattle.session.specs.Replies.{load_reply, pin_reply, run_reply, query_reply, sheet_reply, RestKept};
 
 use crate::session::Session;
 use engine::accepts::{fits, proper};
 use engine::begin::begin;
 use engine::marks::mark_of;
-use engine::side::Side;
+use engine::side::{Side, starts_on};
 use engine::steps::run;
 use lts::Source;
 use records::EquationRecord;
@@ -18,8 +17,8 @@ use sheet::lines::write;
 impl<S: Source, D: Side> Session<S, D> {
     /// Loads a book of equations. Pins, pairs taken and looks of an earlier one are dropped.
     pub fn load(&mut self, records: &[EquationRecord]) -> Result<(), Refusal>
-        ensures call { S.Source.ready self.old.source → Answers (S.Source.meaning self.old.source) D.Side.fixpoint (view self.old.board) (load records.now) (load_reply result) (view self.new.board) }
-        ensures kept { (self.new.source ≡ self.old.source) × (self.new.side ≡ self.old.side) }
+        ensures call { Answered S.ready S.meaning D.FIXPOINT self.old (load records.now) (load_reply result) self.new }
+        ensures kept { Kept self.old self.new }
     {
         if !proper(&self.source, records) {
             return Err(Refusal::BadEquation);
@@ -27,14 +26,13 @@ impl<S: Source, D: Side> Session<S, D> {
         if !fits(&self.source, records) {
             return Err(Refusal::TooManyPairs);
         }
-        begin::<S, D>(&mut self.board, &self.source, records);
-        Ok(())
+        begin::<S, D>(&mut self.board, &self.source, records)
     }
 
     /// Pins a pair, and says whether it turned now.
     pub fn pin(&mut self, s: u16, i: u16) -> Result<bool, Refusal>
-        ensures call { S.Source.ready self.old.source → Answers (S.Source.meaning self.old.source) D.Side.fixpoint (view self.old.board) (pin s i) (pin_reply result) (view self.new.board) }
-        ensures kept { (self.new.source ≡ self.old.source) × (self.new.side ≡ self.old.side) }
+        ensures call { Answered S.ready S.meaning D.FIXPOINT self.old (pin s i) (pin_reply result) self.new }
+        ensures kept { Kept self.old self.new }
     {
         let at = self.board.place(s, i)?;
         let turned = self.board.turned_at(at);
@@ -44,8 +42,8 @@ impl<S: Source, D: Side> Session<S, D> {
 
     /// Takes waiting pairs, `budget` at most: whether the session is settled then, the pairs taken and the looks made.
     pub fn run(&mut self, budget: u16) -> Result<(bool, u16, u64), Refusal>
-        ensures call { S.Source.ready self.old.source → Answers (S.Source.meaning self.old.source) D.Side.fixpoint (view self.old.board) (run budget) (run_reply result) (view self.new.board) }
-        ensures kept { (self.new.source ≡ self.old.source) × (self.new.side ≡ self.old.side) }
+        ensures call { Answered S.ready S.meaning D.FIXPOINT self.old (run budget) (run_reply result) self.new }
+        ensures kept { Kept self.old self.new }
     {
         if !self.board.loaded() {
             return Err(Refusal::NoBook);
@@ -60,10 +58,10 @@ impl<S: Source, D: Side> Session<S, D> {
 
     /// The mark of a pair, and whether it is pinned.
     pub fn query(&self, s: u16, i: u16) -> Result<(Mark, bool), Refusal>
-        ensures { S.Source.ready self.now.source → Answers (S.Source.meaning self.now.source) D.Side.fixpoint (view self.now.board) (query s i) (query_reply result) (view self.now.board) }
+        ensures { Answered S.ready S.meaning D.FIXPOINT self.now (query s i) (query_reply result) self.now }
     {
         let at = self.board.place(s, i)?;
-        let on = self.board.turned_at(at) != D::starts_on();
+        let on = self.board.turned_at(at) != starts_on::<D>();
         let mark = mark_of::<D>(on, !self.board.waiting());
         Ok((mark, self.board.pinned_at(at)))
     }
@@ -71,7 +69,7 @@ impl<S: Source, D: Side> Session<S, D> {
     /// Writes the mark sheet at the front of the buffer, and says how long it is; or refuses, and leaves the buffer
     /// untouched.
     pub fn sheet(&self, out: &mut [u8]) -> Result<usize, Refusal>
-        ensures call { S.Source.ready self.now.source → Answers (S.Source.meaning self.now.source) D.Side.fixpoint (view self.now.board) (sheet (length out.old)) (sheet_reply out.new result) (view self.now.board) }
+        ensures call { Answered S.ready S.meaning D.FIXPOINT self.now (sheet (length out.old)) (sheet_reply out.new result) self.now }
         ensures rest { RestKept out.old out.new result }
     {
         if !self.board.loaded() {

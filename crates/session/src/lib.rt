@@ -4,3 +4,4 @@
 pub mod calls;
 pub mod replay;
 pub mod session;
+mod steps;

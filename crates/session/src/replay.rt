@@ -1,62 +1,34 @@
-ghost use Rattle.std.specs.Prelude.{◌≡◌, ℕ, ◌≤◌, IfOk, vec_len, MatchResult};
+ghost use Rattle.std.specs.Prelude.{◌≡◌, IfOk, MatchResult};
 ghost use Rattle.semantics.specs.Calls.{call_of, reply_of};
-ghost use Rattle.board.specs.View.{view};
-ghost use Rattle.session.specs.Standing.{Answers, Replays, Begins};
-ghost use Rattle.session.specs.Pages.{page_room, Paged};
+ghost use Rattle.session.specs.Sessions.{Kept, Answered};
+ghost use Rattle.session.specs.Standing.{Replays, Begins};
 
 use crate::session::{Session, Unmade};
+use crate::steps::{Step, steps};
 use engine::side::Side;
 use lts::Source;
 use semantics::{Answer, Call, Refusal};
 use std::alloc::{AllocError, Global};
 
-/// No sheet has more bytes.
-const LONGEST: usize = 71780;
-
-// A page for the sheet that a call asks for, if it asks for one.
-fn page(heap: Global, call: &Call) -> Result<Vec<u8>, AllocError>
-    ensures { IfOk result (λ v. vec_len v ≡ page_room call.now) }
-{
-    match call {
-        Call::Sheet(room) => {
-            let room = *room;
-            vec![in heap; 0; room.min(LONGEST)]
-        }
-        _ => Ok(Vec::new(heap)),
-    }
-}
-
-// A page for each call, that of the first call at the end.
-fn pages(heap: Global, calls: &[Call]) -> Result<Vec<Vec<u8>>, AllocError>
-    ensures { IfOk result (λ v. Paged vec_len calls.now v.items) }
-{
-    let mut pages = Vec::new(heap);
-    for i in (0..calls.len()).rev() {
-        pages.push(page(heap, &calls[i])?)?;
-    }
-    Ok(pages)
-}
-
 impl<S: Source, D: Side> Session<S, D> {
-    // Makes one call, with a page for the sheet that it may ask for.
-    fn make(&mut self, call: &Call, page: Vec<u8>) -> Result<Answer, Refusal>
-        requires { vec_len page ≡ page_room call.now }
-        ensures call { S.Source.ready self.old.source → Answers (S.Source.meaning self.old.source) D.Side.fixpoint (view self.old.board) (call_of call.now) (reply_of result) (view self.new.board) }
-        ensures kept { (self.new.source ≡ self.old.source) × (self.new.side ≡ self.old.side) }
+    // Makes the call of one step, and writes the sheet that it may ask for onto the step's page.
+    fn make(&mut self, step: Step) -> Result<Answer, Refusal>
+        ensures call { Answered S.ready S.meaning D.FIXPOINT self.old (call_of step.entry.call) (reply_of result) self.new }
+        ensures kept { Kept self.old self.new }
     {
+        let Step { call, mut page } = step;
         match call {
             Call::Load(records) => self.load(records).map(|()| Answer::Loaded),
-            Call::Pin(s, i) => self.pin(*s, *i).map(Answer::Pinned),
+            Call::Pin(s, i) => self.pin(s, i).map(Answer::Pinned),
             Call::Run(budget) => {
-                let (settled, taken, looks) = self.run(*budget)?;
+                let (settled, taken, looks) = self.run(budget)?;
                 Ok(Answer::Ran(settled, taken, looks))
             }
             Call::Query(s, i) => {
-                let (mark, pinned) = self.query(*s, *i)?;
+                let (mark, pinned) = self.query(s, i)?;
                 Ok(Answer::Told(mark, pinned))
             }
             Call::Sheet(_) => {
-                let mut page = page;
                 let length = self.sheet(&mut page)?;
                 page.truncate(length);
                 Ok(Answer::Written(page))
@@ -71,16 +43,13 @@ impl<S: Source, D: Side> Session<S, D> {
         heap: Global,
         calls: &[Call],
     ) -> Result<Vec<Result<Answer, Refusal>>, AllocError>
-        ensures law { MatchResult result (λ v. S.Source.ready self.old.source → Replays (S.Source.meaning self.old.source) D.Side.fixpoint (view self.old.board) calls.now v.items (view self.new.board)) (λ _. self.new.board ≡ self.old.board) }
-        ensures kept { (self.new.source ≡ self.old.source) × (self.new.side ≡ self.old.side) }
+        ensures law { MatchResult result (λ v. S.ready self.old.source → Replays (S.meaning self.old.source) D.FIXPOINT self.old.board calls.now v.items self.new.board) (λ _. self.new.board ≡ self.old.board) }
+        ensures kept { Kept self.old self.new }
     {
-        let mut pages = pages(heap, calls)?;
+        let steps = steps(heap, calls)?;
         let mut answers = Vec::with_capacity(heap, calls.len())?;
-        for call in calls {
-            let Some(page) = pages.pop() else {
-                unreachable()
-            };
-            let answer = self.make(call, page);
+        for step in steps {
+            let answer = self.make(step);
             answers.push_reserved(answer);
         }
         Ok(answers)
@@ -96,7 +65,7 @@ pub fn replay_new<S: Source, D: Side>(
     calls: &[Call],
 ) -> Result<(Session<S, D>, Vec<Result<Answer, Refusal>>), Unmade<S, D>>
     ensures kept { MatchResult result (λ x. (x.0.source ≡ source) × (x.0.side ≡ side)) (λ e. (e.source ≡ source) × (e.side ≡ side)) }
-    ensures law { S.Source.ready source → IfOk result (λ x. Begins (S.Source.meaning source) D.Side.fixpoint calls.now x.1.items (view x.0.board)) }
+    ensures law { S.ready source → IfOk result (λ x. Begins (S.meaning source) D.FIXPOINT calls.now x.1.items x.0.board) }
 {
     let mut session = Session::new(heap, source, side)?;
     match session.replay(heap, calls) {

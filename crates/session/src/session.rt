@@ -1,6 +1,5 @@
 ghost use Rattle.std.specs.Prelude.{◌≡◌, [], IfOk, MatchResult};
 ghost use Rattle.semantics.specs.Plain.{no_book};
-ghost use Rattle.board.specs.View.{view};
 ghost use Rattle.session.specs.Standing.{StandsFor};
 
 use board::board::Board;
@@ -28,7 +27,7 @@ impl<S: Source, D: Side> Session<S, D> {
     /// and the side come back.
     pub fn new(heap: Global, source: S, side: D) -> Result<Session<S, D>, Unmade<S, D>>
         ensures kept { MatchResult result (λ x. (x.source ≡ source) × (x.side ≡ side)) (λ e. (e.source ≡ source) × (e.side ≡ side)) }
-        ensures new { IfOk result (λ x. StandsFor (S.Source.meaning x.source) D.Side.fixpoint (view x.board) [] no_book) }
+        ensures new { IfOk result (λ x. StandsFor (S.meaning x.source) D.FIXPOINT x.board [] no_book) }
     {
         match Board::new(heap) {
             Ok(board) => Ok(Session {

@@ -1,21 +1,18 @@
 -- The lines of a sheet, as the code comes to them.
-use Rattle.std.proofs.Common.{◌≡◌, ℕ, ◌+◌, ◌*◌, ◌≤◌, Bool, true, false, cond, not, List, [], ◌∷◌, length, get_or, refl, ap, ◌∙◌, ap₂, add-one, arith}
+use Rattle.std.proofs.Common.{◌≡◌, ℕ, zero, suc, ◌+◌, ◌*◌, Bool, true, false, cond, not, length, get_or, refl, ap, ◌∙◌, add-one, count_by, arith}
 use mathlib.Core.Bool.{beq}
-use mir.Val.{bool_byte}
-use Rattle.std.proofs.lemmas.Bool.{both_ways}
+use Rattle.std.specs.List.{range_with_len}
+use Rattle.std.proofs.lemmas.List.{map-id}
+use Rattle.std.proofs.lemmas.List.FromFn.{sum_by-map-range_with_len_more}
+use Rattle.semantics.proofs.Sums.{sum_eq}
 use Rattle.records.specs.declared.Fixpoint.{Fixpoint}
-use Rattle.records.specs.declared.Fixpoint.TheVariants.{Greatest, Least}
 use Rattle.semantics.specs.Lts.{sum}
 use Rattle.semantics.specs.Equations.{start}
-use Rattle.semantics.specs.Plain.{letter}
 use Rattle.board.specs.State.{State}
 use Rattle.refinement.specs.Sheet.{on_below, line, lines_below}
-use Rattle.sheet.specs.Ink.{Wrote}
-use Rattle.sheet.proofs.Inks.{then, inked_none}
-
-pub on_none : (d : Fixpoint) (σ : State) (i : ℕ) → 0 ≡ on_below d σ i 0
-unfolding on_below sum
-on_none d σ i = refl
+use Rattle.sheet.specs.Pens.{Inked}
+use Rattle.sheet.specs.declared.ink.Pen.{Pen}
+use Rattle.sheet.proofs.Inks.{pen_none, pen_then}
 
 -- a pair is on where it has turned, if pairs start off, and else where it has not
 pub turned_on : (t b : Bool) → not (beq t b) ≡ cond t (not b) b
@@ -24,33 +21,24 @@ turned_on true false = refl
 turned_on false true = refl
 turned_on false false = refl
 
--- one state more: it is on where it has turned, if pairs start off
-pub on_more : (d : Fixpoint) (σ : State) (i s n : ℕ) (t b : Bool) (c x : ℕ) → n ≡ length σ.book → t ≡ get_or σ.turned (s * n + i) false → b ≡ start d → c ≡ on_below d σ i s → x ≡ bool_byte (not (beq t b)) → c + x ≡ on_below d σ i (s + 1)
-unfolding on_below sum
-on_more d σ i s n t b c x m e f h g =
-    rw add-one (ap₂ (λ (c x : ℕ). c + x) h (g ∙ one_byte (not (beq t b)) ∙ ap (λ (o : Bool). cond o 1 0) (turned_on t b ∙ ap₂ (λ (t b : Bool). cond t (not b) b) (e ∙ ap (λ (n : ℕ). get_or σ.turned (s * n + i) false) m) f)))
-  where
-    one_byte : (b : Bool) → bool_byte b ≡ cond b 1 0
-    one_byte true = refl
-    one_byte false = refl
+-- the states at which a variable is on
+count_is_sum : (p : ℕ → Bool) (n : ℕ) → count_by p (range_with_len 0 n) ≡ sum n (λ s. cond (p s) 1 0)
+unfolding sum
+count_is_sum p zero = refl
+count_is_sum p (suc n) =
+    let on : suc n ≡ n + 1 = omega arith in
+    let more = simp map-id at (sum_by-map-range_with_len_more (λ s. cond (p s) 1 0) (λ s. s) 0 n n (omega arith)) in
+    ap (λ (k : ℕ). count_by p (range_with_len 0 k)) on ∙ more ∙ ap (λ (m : ℕ). m + cond (p n) 1 0) (count_is_sum p n)
 
-pub letter_on : (d : Fixpoint) → start d ≡ true → 71 ∷ [] ≡ letter d
-letter_on Greatest e = refl
-letter_on Least e = absurd (both_ways false refl e)
-
-pub letter_off : (d : Fixpoint) → start d ≡ false → 76 ∷ [] ≡ letter d
-letter_off Greatest e = absurd (both_ways true e refl)
-letter_off Least e = refl
+pub counted_on : (d : Fixpoint) (σ : State) (i n : ℕ) → count_by (λ s. not (beq (get_or σ.turned (s * length σ.book + i) false) (start d))) (range_with_len 0 n) ≡ on_below d σ i n
+unfolding on_below
+counted_on d σ i n = count_is_sum (λ s. not (beq (get_or σ.turned (s * length σ.book + i) false) (start d))) n ∙ sum_eq n _ _ (λ s h. ap (λ (b : Bool). cond b 1 0) (turned_on (get_or σ.turned (s * length σ.book + i) false) (start d)))
 
 -- no line, and one line more
-pub lines_none : (d : Fixpoint) (σ : State) (out : List ℕ) (at : ℕ) → Wrote out at (lines_below d σ 0) out at
+pub lines_none : (d : Fixpoint) (σ : State) (p : Pen) → Inked p p (lines_below d σ 0)
 unfolding lines_below
-lines_none d σ out at = record { after = inked_none out at; next = omega arith }
+lines_none d σ p = pen_none p
 
-pub lines_more : (d : Fixpoint) (σ : State) (i N m : ℕ) (out mid out' : List ℕ) (at next end : ℕ) → N ≡ σ.states → m ≡ on_below d σ i σ.states → Wrote out at (lines_below d σ i) mid next → Wrote mid next (line N i m) out' end → Wrote out at (lines_below d σ (i + 1)) out' end
+pub lines_more : {p q r : Pen} (d : Fixpoint) (σ : State) (i N m : ℕ) → N ≡ σ.states → m ≡ on_below d σ i σ.states → Inked p q (lines_below d σ i) → Inked q r (line N i m) → Inked p r (lines_below d σ (i + 1))
 unfolding lines_below
-lines_more d σ i N m out mid out' at next end e f v w = rw (add-one, ← f, ← e) (then v w)
-
-pub byte_low : (b : Bool) → bool_byte b ≤ 1
-byte_low true = omega arith
-byte_low false = omega arith
+lines_more d σ i N m e f v w = rw (add-one, ← f, ← e) (pen_then v w)

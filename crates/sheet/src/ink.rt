@@ -1,40 +1,48 @@
-ghost use Rattle.std.specs.Prelude.{◌≡◌, ℕ, ◌+◌, ◌*◌, ◌^◌, ◌<◌, ◌≤◌, length, decimal, slice_set};
-ghost use Rattle.sheet.specs.Ink.{Wrote};
+ghost use Rattle.std.specs.Prelude.{◌≡◌, ℕ, ◌+◌, ◌*◌, ◌^◌, ◌<◌, ◌≤◌, [], ◌∷◌, length, decimal};
+ghost use Rattle.sheet.specs.Pens.{Inked};
 
-// Writes a byte, if it has room, and says where the next goes.
-fn put(out: &mut [u8], at: usize, b: u8) -> usize
-    requires { at < 2 ^ 32 }
-    ensures after { out.new ≡ slice_set out.old at b }
-    ensures next { result ≡ at + 1 }
-{
-    if at < out.len() {
-        out[at] = b;
-    }
-    at + 1
+/// A buffer, written from its front on, and how many bytes are written. What finds no room is lost, and counted all the same.
+#[derive(Drop)]
+pub(crate) struct Pen<'a> {
+    pub(crate) out: &'a mut [u8],
+    pub(crate) at: usize,
 }
 
-// Writes bytes.
-pub(crate) fn put_bytes(out: &mut [u8], at: usize, bytes: &[u8]) -> usize
-    requires { at + length bytes.now < 2 ^ 32 }
-    ensures { Wrote out.old at bytes.now out.new result }
-{
-    let mut next = at;
-    for b in bytes {
-        next = put(out, next, *b);
+impl Pen<'_> {
+    // Writes a byte. A test and an index: after `get_mut` on a slice a proof knows no element.
+    #[tactic(auto, unfolding(crate::specs::Ink::inked))]
+    fn byte(&mut self, b: u8)
+        requires { self.old.at < 2 ^ 32 }
+        ensures { Inked self.old self.new (b ∷ []) }
+    {
+        let at = self.at;
+        self.at += 1;
+        if at < self.out.len() {
+            self.out[at] = b;
+        }
     }
-    next
-}
 
-// Writes a number.
-pub(crate) fn put_number(out: &mut [u8], at: usize, n: u64) -> usize
-    requires { at + 21 < 2 ^ 32 }
-    ensures wrote { Wrote out.old at (decimal n) out.new result }
-    ensures bound { result ≤ at + 20 }
-{
-    if n < 10 {
-        put(out, at, 48 + n as u8)
-    } else {
-        let next = put_number(out, at, n / 10);
-        put(out, next, 48 + (n % 10) as u8)
+    /// Writes bytes.
+    pub(crate) fn bytes(&mut self, bytes: &[u8])
+        requires { self.old.at + length bytes.now < 2 ^ 32 }
+        ensures { Inked self.old self.new bytes.now }
+    {
+        for b in bytes {
+            self.byte(*b);
+        }
+    }
+
+    /// Writes a number.
+    pub(crate) fn number(&mut self, n: u64)
+        requires { self.old.at + 21 < 2 ^ 32 }
+        ensures wrote { Inked self.old self.new (decimal n) }
+        ensures bound { self.new.at ≤ self.old.at + 20 }
+    {
+        if n < 10 {
+            self.byte(48 + n as u8);
+        } else {
+            self.number(n / 10);
+            self.byte(48 + (n % 10) as u8);
+        }
     }
 }

@@ -1,17 +1,17 @@
-use Rattle.std.proofs.Common.{decimal, ap, arith}
-use Rattle.sheet.proofs.Inks.{then, same}
+use Rattle.std.proofs.Common.{decimal, ap}
+use Rattle.sheet.proofs.Inks.{pen_then, pen_same}
 use Rattle.sheet.proofs.lines.put_top.Goals as goal
 
-pub returns : goal.returns
-returns g c =
-    let m = c.put_bytes-a.ensures in
-    let l = same c.letter.ensures c.put_bytes-b.ensures in
-    let x = c.put_bytes-c.ensures in
-    let s = same (ap decimal c.states.ensures) c.put_number-d.ensures.wrote in
-    let y = c.put_bytes-e.ensures in
-    let n = same (ap decimal c.equations.ensures) c.put_number-f.ensures.wrote in
-    let z = c.put_bytes-g.ensures in
-    let w = same c.settled_digit.ensures c.put_bytes-h.ensures in
-    let u = c.put_bytes-i.ensures in
-    let k = same (ap decimal c.looks.ensures) c.put_number-j.ensures.wrote in
-    record { wrote = then (then (then (then (then (then (then (then (then (then m l) x) s) y) n) z) w) u) k) c.put_bytes.ensures; bound = omega (arith, c.put_bytes.ensures.next, c.put_number-j.ensures.bound, c.put_bytes-i.ensures.next, c.put_bytes-h.ensures.next, c.put_bytes-g.ensures.next, c.put_number-f.ensures.bound, c.put_bytes-e.ensures.next, c.put_number-d.ensures.bound, c.put_bytes-c.ensures.next, c.put_bytes-b.ensures.next, c.put_bytes-a.ensures.next) }
+pub returns-clause-wrote : goal.returns-clause-wrote
+returns-clause-wrote g c =
+    let m = c.bytes.ensures in
+    let l = pen_same c.letter.ensures c.bytes-2.ensures in
+    let x = c.bytes-3.ensures in
+    let s = pen_same (ap decimal c.states.ensures.value) c.number.ensures.wrote in
+    let y = c.bytes-4.ensures in
+    let n = pen_same (ap decimal c.equations.ensures.value) c.number-2.ensures.wrote in
+    let z = c.bytes-5.ensures in
+    let w = pen_same c.settled_digit.ensures c.bytes-6.ensures in
+    let u = c.bytes-7.ensures in
+    let k = pen_same (ap decimal c.looks.ensures) c.number-3.ensures.wrote in
+    pen_then (pen_then (pen_then (pen_then (pen_then (pen_then (pen_then (pen_then (pen_then (pen_then m l) x) s) y) n) z) w) u) k) c.bytes-8.ensures

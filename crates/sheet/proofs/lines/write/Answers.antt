@@ -1,7 +1,11 @@
+use Rattle.std.proofs.Common.{rules}
 use Rattle.refinement.specs.Sheet.{sheet_of}
-use Rattle.sheet.proofs.Inks.{then}
+use Rattle.sheet.proofs.Inks.{pen_then, pen_left}
 use Rattle.sheet.proofs.lines.write.Goals as goal
 
-pub returns : goal.returns
+pub returns-clause-wrote : goal.returns-clause-wrote
 unfolding sheet_of
-returns g c = record { bound = c.put_lines.ensures.bound; wrote = then c.put_top-next.ensures.wrote c.put_lines.ensures.wrote }
+returns-clause-wrote g c =
+    let w = pen_then c.put_top.ensures.wrote c.put_lines.ensures.wrote in
+    let same = w.same in
+    pen_left _ w (search (rules, same))

@@ -1,7 +1,6 @@
 use Rattle.std.proofs.Common.{ℕ, length, ap, ◌∙◌, arith}
 use Rattle.board.specs.State.{State}
-use Rattle.board.specs.View.{view}
-use Rattle.board.proofs.Folds.{each_none, each_more, each_all}
+use Rattle.board.proofs.Folds.{each_none, each_more}
 use Rattle.board.proofs.Relinking.{relinks_long}
 use Rattle.board.proofs.board.Board.link_all.Goals as goal
 
@@ -10,12 +9,9 @@ loop-p-init c = each_none _ _
 
 pub link-requires : goal.link-requires
 link-requires c =
-    let a = ap (λ (τ : State). length τ.next) c.loop-p.invariant ∙ relinks_long c.loop-p.p (view c.args.self.now) in
+    let a = ap (λ (τ : State). length τ.next) c.loop-p.invariant ∙ relinks_long c.loop-p.p c.args.self.now in
     let z = ap (length {A = ℕ}) c.requires in
-    (omega arith, omega arith)
+    omega arith
 
 pub loop-p-preserved : goal.loop-p-preserved
 loop-p-preserved c = each_more _ _ _ _ _ c.loop-p.invariant c.link.ensures
-
-pub returns : goal.returns
-returns c = each_all _ _ _ _ c.loop-p.p (omega (arith, c.args.self.now.equations.ok.0)) c.loop-p.invariant

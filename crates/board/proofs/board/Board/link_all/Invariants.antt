@@ -1,8 +1,7 @@
 use Rattle.std.proofs.Common.{◌≡◌}
 use Rattle.board.specs.Each.{each}
 use Rattle.board.specs.Links.{relink}
-use Rattle.board.specs.View.{view}
 use Rattle.board.proofs.board.Board.link_all.Given as goal
 
 abbrev pub invariant-loop-p : goal.invariant-loop-p
-invariant-loop-p l = view l.self ≡ each l.p relink (view l.initial.self)
+invariant-loop-p l = l.self ≡ each l.p relink l.initial.self

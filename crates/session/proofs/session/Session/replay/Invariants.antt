@@ -1,10 +1,13 @@
-use Rattle.std.proofs.Common.{◌≡◌, ◌≤◌, length, take, drop, vec_items, vec_len, vec_capacity}
-use Rattle.board.specs.View.{view}
-use Rattle.session.specs.Pages.{Paged}
+use Rattle.std.proofs.Common.{◌≡◌, ◌≤◌, length, map, vec_items, vec_len, vec_capacity}
+use Rattle.session.specs.Sessions.{Kept}
 use Rattle.session.specs.Standing.{Replays}
 use Rattle.session.proofs.session.Session.replay.Given as goal
 
-abbrev pub invariant-loop-call : goal.invariant-loop-call
-invariant-loop-call g l =
-    (l.self.source ≡ l.initial.self.source) × (l.self.side ≡ l.initial.self.side) × (vec_len l.answers ≡ l.call-index) × (length l.calls ≤ vec_capacity l.answers) × Paged vec_len (drop l.call-index l.calls) (vec_items l.pages) ×
-    (g.S.Source.ready l.initial.self.source → Replays (g.S.Source.meaning l.initial.self.source) g.D.Side.fixpoint (view l.initial.self.board) (take l.call-index l.calls) (vec_items l.answers) (view l.self.board))
+abbrev pub invariant-loop-step : goal.invariant-loop-step
+invariant-loop-step g l =
+    record {
+      kept : Kept l.initial.self l.self;
+      long : vec_len l.answers ≡ length l.yielded;
+      room : length l.calls ≤ vec_capacity l.answers;
+      law : g.S.Source.ready l.initial.self.source → Replays (g.S.Source.meaning l.initial.self.source) g.D.Side.FIXPOINT l.initial.self.board (map (λ s. s.call) l.yielded) (vec_items l.answers) l.self.board;
+    }
