@@ -1,7 +1,7 @@
 ghost use Rattle.std.specs.Prelude.{◌≡◌};
 ghost use Rattle.semantics.specs.Plain.{mark_of};
 
-use crate::side::{Side, starts_on};
+use crate::side::Side;
 use semantics::Mark;
 
 /// What query tells of a pair that is on or off, in a session that is settled or not.
@@ -9,7 +9,7 @@ use semantics::Mark;
 pub fn mark_of<D: Side>(on: bool, settled: bool) -> Mark
     ensures { result ≡ mark_of D.FIXPOINT on settled }
 {
-    if !settled && on == starts_on::<D>() {
+    if !settled && on == D::START {
         Mark::Open
     } else if on {
         Mark::Held

@@ -7,7 +7,7 @@ use crate::session::Session;
 use engine::accepts::{fits, proper};
 use engine::begin::begin;
 use engine::marks::mark_of;
-use engine::side::{Side, starts_on};
+use engine::side::Side;
 use engine::steps::run;
 use lts::Source;
 use records::EquationRecord;
@@ -61,7 +61,7 @@ impl<S: Source, D: Side> Session<S, D> {
         ensures { Answered S.ready S.meaning D.FIXPOINT self.now (query s i) (query_reply result) self.now }
     {
         let at = self.board.place(s, i)?;
-        let on = self.board.turned_at(at) != starts_on::<D>();
+        let on = self.board.turned_at(at) != D::START;
         let mark = mark_of::<D>(on, !self.board.waiting());
         Ok((mark, self.board.pinned_at(at)))
     }

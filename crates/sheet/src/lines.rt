@@ -10,7 +10,7 @@ ghost use Rattle.sheet.specs.Pens.{Inked};
 
 use crate::ink::Pen;
 use board::board::Board;
-use engine::side::{Side, starts_on};
+use engine::side::Side;
 
 // 1,000 × marked ÷ states to the nearest whole number, an exact half going up.
 #[tactic(auto, unfolding(semantics::specs::Plain::share))]
@@ -32,7 +32,7 @@ fn on_states<D: Side>(board: &Board, i: usize) -> usize
     ensures bound { result ≤ 8192 }
 {
     (0..board.states())
-        .filter(|s| board.turned_at(*s * board.equations() + i) != starts_on::<D>())
+        .filter(|s| board.turned_at(*s * board.equations() + i) != D::START)
         .count()
 }
 
