@@ -38,6 +38,7 @@ impl Board {
     }
 
     // Operand `p` becomes the last that names variable `v`; the one before it comes back.
+    #[tactic(auto, using(crate::proofs::Cells::writes))]
     fn replace_head(&mut self, v: usize, p: usize) -> Option<usize>
         ensures before { link_number result ≡ slice_index self.old.head v }
         ensures after { self.new ≡ with_links self.old (slice_set self.old.head v (p + 1)) self.old.next }
@@ -67,6 +68,7 @@ impl Board {
     }
 
     // Links every operand of a new book.
+    #[tactic(auto, using(crate::proofs::Folds::turns, crate::proofs::Relinking::relinks_long))]
     pub(crate) fn link_all(&mut self)
         requires { self.old.next ≡ [] }
         ensures { self.new ≡ each (2 * length self.old.book) relink self.old }

@@ -29,7 +29,7 @@ fn read_equation(written: &EquationRecord) -> Equation
     Equation::try_from(*written).unwrap_or(Equation::NONE)
 }
 
-// The equations of the records, in the room that there is: `push_reserved` says by type that it claims none.
+// The equations of the records, in the room that there is: `push_reserved` claims no memory, and `extend` may.
 fn fill(equations: &mut Vec<Equation>, records: &[EquationRecord])
     requires { length records.now ≤ vec_capacity equations.old }
     ensures items { equations.new.items ≡ book_of records.now }
