@@ -88,13 +88,11 @@ module _ (A : source.Answers) (F : Lts) (shows : source.Shows A F) (d : Fixpoint
       answers σ (load rs) (refused 12) (sym (ap₂ (λ (a b : Bool). cond (a && b) (begun A d (book_of rs)) σ) e f))
       (sym (ap₂ (λ (a b : Bool). cond a (cond b loaded (refused 12)) (refused 13)) e f))
 
-  pub loads : (rs : List EquationRecord) (r : Result (Unit {0}) Refusal) (τ : State) → proper (sized A) rs ≡ true → fits (sized A) rs ≡ true → r ≡ cond (room? A.states (length rs)) (Ok tt) (Err TooManyPairs) →
-      τ ≡ cond (room? A.states (length rs)) (begun A d (book_of rs)) σ → Answers F d σ (load rs) (load_reply r) τ
+  pub loads : (rs : List EquationRecord) (τ : State) → proper (sized A) rs ≡ true → fits (sized A) rs ≡ true → τ ≡ cond (room? A.states (length rs)) (begun A d (book_of rs)) σ → Answers F d σ (load rs) loaded τ
   unfolding stepped told_by
-  loads rs r τ e f k g =
-      let room = roomy A rs e f in
-      answers τ (load rs) (load_reply r) (g ∙ cond-true (room? A.states (length rs)) _ _ room ∙ sym (ap₂ (λ (a b : Bool). cond (a && b) (begun A d (book_of rs)) σ) e f))
-      (ap load_reply (k ∙ cond-true (room? A.states (length rs)) _ _ room) ∙ sym (ap₂ (λ (a b : Bool). cond a (cond b loaded (refused 12)) (refused 13)) e f))
+  loads rs τ e f g =
+      answers τ (load rs) loaded (g ∙ cond-true (room? A.states (length rs)) _ _ (roomy A rs e f) ∙ sym (ap₂ (λ (a b : Bool). cond (a && b) (begun A d (book_of rs)) σ) e f))
+      (sym (ap₂ (λ (a b : Bool). cond a (cond b loaded (refused 12)) (refused 13)) e f))
 
   -- pin
   pub unpinned : (s i : ℕ) (r : Result Bool Refusal) (e : Refusal) → r ≡ Err e → place_of σ s i ≡ Err e → Answers F d σ (pin s i) (pin_reply r) σ

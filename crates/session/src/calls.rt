@@ -26,7 +26,8 @@ impl<S: Source, D: Side> Session<S, D> {
         if !fits(&self.source, records) {
             return Err(Refusal::TooManyPairs);
         }
-        begin::<S, D>(&mut self.board, &self.source, records)
+        begin::<S, D>(&mut self.board, &self.source, records);
+        Ok(())
     }
 
     /// Pins a pair, and says whether it turned now.

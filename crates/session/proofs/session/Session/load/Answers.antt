@@ -12,4 +12,4 @@ returns-then-not-fits g c =
 
 pub returns : goal.returns
 returns g c =
-    record { call = λ ready. loads _ _ (g.met.S.Source.shows _ ready) _ c.args.self.now.board _ _ _ (sym c.proper.ensures ∙ c.if-not-proper.false) (sym c.fits.ensures ∙ c.if-not-fits.false) c.begin.ensures.answer c.begin.ensures.after; kept = (refl, refl) }
+    record { call = λ ready. loads _ _ (g.met.S.Source.shows _ ready) _ c.args.self.now.board _ _ (sym c.proper.ensures ∙ c.if-not-proper.false) (sym c.fits.ensures ∙ c.if-not-fits.false) c.begin.ensures; kept = (refl, refl) }
