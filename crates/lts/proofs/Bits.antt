@@ -1,9 +1,9 @@
 -- The bits of a number.
-use Rattle.std.proofs.Common.{◌≡◌, ℕ, ◌+◌, ◌-◌, ◌*◌, ◌/◌, ◌%◌, ◌^◌, ◌<◌, ◌≤◌, Bool, true, false, ◌&&◌, ◌||◌, eqb, ltb, ◌⊎◌, sym, refl, ap, ◌∙◌, inl, inr, ⊎_elim, arith, pow_mono, w64, Fits}
+use Rattle.std.proofs.Common.{◌≡◌, ℕ, ◌+◌, ◌-◌, ◌*◌, ◌/◌, ◌%◌, ◌^◌, ◌<◌, ◌≤◌, false, ◌&&◌, ◌||◌, eqb, ltb, ◌⊎◌, sym, ap, ◌∙◌, inl, inr, ⊎_elim, arith, pow_mono, w64, Fits}
 use native.Mathlib.Nat.{div-eq_of_lt, zero-div}
 use lib.Bits.{bit_or}
 use Rattle.std.proofs.lemmas.Nat.{or_mod, or_shr, mod_below, pow_below, pow-add, shl-shr, one_shl, div-add-mod'}
-use Rattle.std.proofs.lemmas.Bool.{le-ltb, lt-ltb, eq-eqb, ne_eqb, cases_lt}
+use Rattle.std.proofs.lemmas.Bool.{lt-ltb, eq-eqb, ne_eqb, cases_lt}
 use Rattle.lts.specs.Sets.{bit}
 
 pub zero_bit : (i : ℕ) → bit 0 i ≡ false

@@ -1,17 +1,10 @@
 ghost use Rattle.std.specs.Prelude.{◌≡◌, ℕ, false, ◌&&◌, ◌||◌, ◌==◌, nat_lt};
-ghost use Rattle.lts.specs.Sets.{bit, member, all_below, set_of};
+ghost use Rattle.lts.specs.Sets.{member, all_below, set_of};
 
 /// A set of numbers below 64: of actions, or of atoms.
 #[derive(Clone, Copy, Debug, PartialEq, Eq)]
 pub struct SmallSet {
     bits: u64,
-}
-
-/// Whether bit `i` of `bits` is 1.
-fn has_bit(bits: u64, i: usize) -> bool
-    ensures { result ≡ bit bits i }
-{
-    i < 64 && (bits >> i) % 2 == 1
 }
 
 impl SmallSet {
@@ -33,7 +26,7 @@ impl SmallSet {
     pub fn has(self, i: usize) -> bool
         ensures { result ≡ member self i }
     {
-        has_bit(self.bits, i)
+        i < 64 && (self.bits >> i) % 2 == 1
     }
 
     /// The set with `i` as well, where `i` is below 64.
