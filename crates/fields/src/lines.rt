@@ -60,7 +60,7 @@ impl<'a> Lines<'a> {
     /// The first line of a text of 1 to 32,768 bytes, and the lines after it.
     pub fn of_text(text: &'a [u8]) -> Result<(RawLine<'a>, Lines<'a>), Fault>
         ensures { MatchResult result
-            (λ p. (0 < length text.now) × (length text.now ≤ 32768) × (pieces 10 text.now ≡ p.0.bytes.now ∷ pieces 10 p.1.rest.now) × (p.0.number ≡ 1) × (p.1.count ≡ 1))
+            (λ p. (0 < length text.now) × (length text.now ≤ 32768) × (pieces 10 text.now ≡ p.0.bytes.now ∷ pieces 10 p.1.rest.now) × (p.0.number ≡ 1) × (p.1.count ≡ 1) × (length p.1.rest.now < length text.now))
             (λ f. (((0 < length text.now) × (length text.now ≤ 32768) → ⊥) × (f ≡ fault Size 0 0))
             ⊎ ((0 < length text.now) × (length text.now ≤ 32768) × (pieces 10 text.now ≡ text.now ∷ []) × (f ≡ fault Form 1 0))) }
     {

@@ -1,4 +1,3 @@
-mod Adding
 mod Placing
 mod Putting
 pub mod Walking

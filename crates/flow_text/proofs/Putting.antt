@@ -1,12 +1,13 @@
 -- The three lists, of which one gets a record.
-use Rattle.std.proofs.Common.{◌≡◌, ℕ, ◌+◌, ◌<◌, ◌≤◌, ◌&&◌, eqb, List, [], ◌∷◌, ◌++◌, length, take, drop, set, IsErrAnd, Some, None, Ok, Result, sym, refl, ap, ◌∙◌, subst, arith, length-append}
+use Rattle.std.proofs.Common.{◌≡◌, ℕ, ◌+◌, ◌<◌, ◌&&◌, eqb, List, [], ◌∷◌, ◌++◌, length, take, set, Some, None, Result, MatchResult, sym, refl, ap, ◌∙◌, subst}
 use Rattle.std.specs.List.{ContainsAt as Has}
 use Rattle.std.proofs.lemmas.Bool.{and_parts, and_from, eqb-true, eq-eqb}
 use Rattle.records.specs.declared.Transition as transition
 use Rattle.records.specs.declared.Divergence as divergence
 use Rattle.records.specs.declared.Label as label
 use Rattle.fields.specs.declared.fault.Fault.{Fault}
-use Rattle.fields.proofs.Exits.{exit}
+use Rattle.std.proofs.lemmas.Result.{MatchResult-weaker}
+use Rattle.lines.specs.Lent.{Filled}
 use Rattle.flow_text.specs.Lists.{Unplaced}
 use Rattle.flow_text.specs.Flows.{same_transition, same_divergence, same_label, transitions_of, divergences_of, labels_of, misplaced, Lent, lent, room_in, Row, Kept, Puts}
 use Rattle.flow_text.specs.declared.record.Record.{Record}
@@ -68,17 +69,17 @@ labels_push (Transition x ∷ rs) r = labels_push rs r
 labels_push (Divergence x ∷ rs) r = labels_push rs r
 labels_push (Label x ∷ rs) r = ap (λ ys. x ∷ ys) (labels_push rs r)
 
--- how many are used is within the list
-within : {X : Type 0} (before xs after : List X) (n : ℕ) → Row before xs after n → n ≤ length after
-within before xs after n row =
-    omega (arith, row.count, ap length row.filled.items, length-append xs (drop (length xs) before))
-
 -- what `add` says of a list, for a record that goes in and for one that does not
 abbrev Added : {X : Type 0} → List X → ℕ → ℕ → X → List X → ℕ → Type 0
-Added list used most x list' n = used ≤ length list → (n ≡ used + 1) × (used < length list) × (used < most) × (Has (take used list) x → ⊥) × (list' ≡ set list used x)
+Added list used most x list' n = (n ≡ used + 1) × (used < length list) × (used < most) × (Has (take used list) x → ⊥) × (list' ≡ set list used x)
 
-abbrev KeptOut : {X : Type 0} → List X → ℕ → ℕ → X → ℕ → Fault → List X → Type 0
-KeptOut list used most x line f list' = used ≤ length list → Unplaced list used most x line f × (list' ≡ list)
+abbrev KeptOut : {X : Type 0} → List X → ℕ → ℕ → X → ℕ → Fault → List X → ℕ → Type 0
+KeptOut list used most x line f list' n = Unplaced list used most x line f × (list' ≡ list) × (n ≡ used)
+
+-- the same list, under another name
+row_as : {X : Type 0} (before xs after after' : List X) (n n' : ℕ) → Row before xs after n → after' ≡ after → n' ≡ n → Row before xs after' n'
+row_as {X = X} before xs after after' n n' row e c =
+    let P : List X → Type 0 = λ ys. Filled before xs ys in record { filled = subst P (sym e) row.filled; count = c ∙ row.count }
 
 -- The three kinds of records
 
@@ -99,7 +100,7 @@ module _ (before : Lent) (ts : List transition.Transition) (us : List divergence
   pub transition_put : (x : transition.Transition) (ts' : List transition.Transition) → Added ts n.transitions 2048 x ts' n'.transitions → n'.divergences ≡ n.divergences → n'.labels ≡ n.labels →
       (misplaced (room_in before) rs (Transition x) ≡ None) × Kept before (lent ts' us ps) n' (rs ++ Transition x ∷ [])
   transition_put x ts' added b d =
-      let h = added (within _ _ ts n.transitions k.transitions) in (
+      let h = added in (
         placed same_transition tells_transition before.transitions (transitions_of rs) ts n.transitions 2048 k.transitions x h.1 h.2 h.3,
         record {
           transitions = grows same_transition tells_transition before.transitions (transitions_of rs) ts n.transitions 2048 k.transitions x _ ts' n'.transitions h.1 (transitions_push rs (Transition x)) h.4 h.0;
@@ -111,7 +112,7 @@ module _ (before : Lent) (ts : List transition.Transition) (us : List divergence
   pub divergence_put : (x : divergence.Divergence) (us' : List divergence.Divergence) → Added us n.divergences 1024 x us' n'.divergences → n'.transitions ≡ n.transitions → n'.labels ≡ n.labels →
       (misplaced (room_in before) rs (Divergence x) ≡ None) × Kept before (lent ts us' ps) n' (rs ++ Divergence x ∷ [])
   divergence_put x us' added b d =
-      let h = added (within _ _ us n.divergences k.divergences) in (
+      let h = added in (
         placed same_divergence tells_divergence before.divergences (divergences_of rs) us n.divergences 1024 k.divergences x h.1 h.2 h.3,
         record {
           transitions = transitions_stay (Divergence x) refl b;
@@ -123,7 +124,7 @@ module _ (before : Lent) (ts : List transition.Transition) (us : List divergence
   pub label_put : (x : label.Label) (ps' : List label.Label) → Added ps n.labels 2048 x ps' n'.labels → n'.transitions ≡ n.transitions → n'.divergences ≡ n.divergences →
       (misplaced (room_in before) rs (Label x) ≡ None) × Kept before (lent ts us ps') n' (rs ++ Label x ∷ [])
   label_put x ps' added b d =
-      let h = added (within _ _ ps n.labels k.labels) in (
+      let h = added in (
         placed same_label tells_label before.labels (labels_of rs) ps n.labels 2048 k.labels x h.1 h.2 h.3,
         record {
           transitions = transitions_stay (Label x) refl b;
@@ -132,33 +133,30 @@ module _ (before : Lent) (ts : List transition.Transition) (us : List divergence
         },
       )
 
-module _ (before : Lent) (ts : List transition.Transition) (us : List divergence.Divergence) (ps : List label.Label) (n : Flow) (rs : List Record) (k : Kept before (lent ts us ps) n rs) (line : ℕ) (f : Fault) where
-  pub transition_refused : (x : transition.Transition) (ts' : List transition.Transition) → KeptOut ts n.transitions 2048 x line f ts' →
-      (misplaced (room_in before) rs (Transition x) ≡ Some (f.cause, f.field)) × (f.line ≡ line) × Kept before (lent ts' us ps) n rs
-  transition_refused x ts' out =
-      let h = out (within _ _ ts n.transitions k.transitions) in
-      let u = unplaced same_transition tells_transition before.transitions (transitions_of rs) ts n.transitions 2048 k.transitions x line f h.0 in
-      let P : List transition.Transition → Type 0 = λ ys. Kept before (lent ys us ps) n rs in (u.0, u.1, subst P (sym h.1) k)
+module _ (before : Lent) (ts : List transition.Transition) (us : List divergence.Divergence) (ps : List label.Label) (n n' : Flow) (rs : List Record) (k : Kept before (lent ts us ps) n rs) (line : ℕ) (f : Fault) where
+  pub transition_refused : (x : transition.Transition) (ts' : List transition.Transition) → KeptOut ts n.transitions 2048 x line f ts' n'.transitions → n'.divergences ≡ n.divergences → n'.labels ≡ n.labels →
+      (misplaced (room_in before) rs (Transition x) ≡ Some (f.cause, f.field)) × (f.line ≡ line) × Kept before (lent ts' us ps) n' rs
+  transition_refused x ts' out b d =
+      let u = unplaced same_transition tells_transition before.transitions (transitions_of rs) ts n.transitions 2048 k.transitions x line f out.0 in
+      (u.0, u.1, record { transitions = row_as _ _ _ _ _ _ k.transitions out.1 out.2; divergences = row_as _ _ _ _ _ _ k.divergences refl b; labels = row_as _ _ _ _ _ _ k.labels refl d })
 
-  pub divergence_refused : (x : divergence.Divergence) (us' : List divergence.Divergence) → KeptOut us n.divergences 1024 x line f us' →
-      (misplaced (room_in before) rs (Divergence x) ≡ Some (f.cause, f.field)) × (f.line ≡ line) × Kept before (lent ts us' ps) n rs
-  divergence_refused x us' out =
-      let h = out (within _ _ us n.divergences k.divergences) in
-      let u = unplaced same_divergence tells_divergence before.divergences (divergences_of rs) us n.divergences 1024 k.divergences x line f h.0 in
-      let P : List divergence.Divergence → Type 0 = λ ys. Kept before (lent ts ys ps) n rs in (u.0, u.1, subst P (sym h.1) k)
+  pub divergence_refused : (x : divergence.Divergence) (us' : List divergence.Divergence) → KeptOut us n.divergences 1024 x line f us' n'.divergences → n'.transitions ≡ n.transitions → n'.labels ≡ n.labels →
+      (misplaced (room_in before) rs (Divergence x) ≡ Some (f.cause, f.field)) × (f.line ≡ line) × Kept before (lent ts us' ps) n' rs
+  divergence_refused x us' out b d =
+      let u = unplaced same_divergence tells_divergence before.divergences (divergences_of rs) us n.divergences 1024 k.divergences x line f out.0 in
+      (u.0, u.1, record { transitions = row_as _ _ _ _ _ _ k.transitions refl b; divergences = row_as _ _ _ _ _ _ k.divergences out.1 out.2; labels = row_as _ _ _ _ _ _ k.labels refl d })
 
-  pub label_refused : (x : label.Label) (ps' : List label.Label) → KeptOut ps n.labels 2048 x line f ps' →
-      (misplaced (room_in before) rs (Label x) ≡ Some (f.cause, f.field)) × (f.line ≡ line) × Kept before (lent ts us ps') n rs
-  label_refused x ps' out =
-      let h = out (within _ _ ps n.labels k.labels) in
-      let u = unplaced same_label tells_label before.labels (labels_of rs) ps n.labels 2048 k.labels x line f h.0 in
-      let P : List label.Label → Type 0 = λ ys. Kept before (lent ts us ys) n rs in (u.0, u.1, subst P (sym h.1) k)
+  pub label_refused : (x : label.Label) (ps' : List label.Label) → KeptOut ps n.labels 2048 x line f ps' n'.labels → n'.transitions ≡ n.transitions → n'.divergences ≡ n.divergences →
+      (misplaced (room_in before) rs (Label x) ≡ Some (f.cause, f.field)) × (f.line ≡ line) × Kept before (lent ts us ps') n' rs
+  label_refused x ps' out b d =
+      let u = unplaced same_label tells_label before.labels (labels_of rs) ps n.labels 2048 k.labels x line f out.0 in
+      (u.0, u.1, record { transitions = row_as _ _ _ _ _ _ k.transitions refl b; divergences = row_as _ _ _ _ _ _ k.divergences refl d; labels = row_as _ _ _ _ _ _ k.labels out.1 out.2 })
 
--- a record that is known by an equation
-module _ {X : Type 0} (lists lists' : Lent) (n n' : Flow) (x y : Record) (is : y ≡ x) (line : ℕ) where
-  pub goes_in : (u : X) → ((before : Lent) (rs : List Record) → Kept before lists n rs → (misplaced (room_in before) rs x ≡ None) × Kept before lists' n' (rs ++ x ∷ [])) → Puts lists lists' n n' y line (Ok u)
-  goes_in u h = let P : Record → Type 0 = λ z. Puts lists lists' n n' z line (Ok u) in subst P (sym is) (record { puts = h })
-
-  pub stays_out : (r : Result X Fault) (f : Fault) → IsErrAnd r (λ g. g ≡ f)
-      → ((before : Lent) (rs : List Record) → Kept before lists n rs → (misplaced (room_in before) rs x ≡ Some (f.cause, f.field)) × (f.line ≡ line) × Kept before lists' n' rs) → Puts lists lists' n n' y line r
-  stays_out r f e h = let P : Record → Type 0 = λ z. Puts lists lists' n n' z line r in subst P (sym is) (record { puts = λ before rs k. exit _ _ r f e (h before rs k) })
+-- a record that is known by an equation goes in, or stays out
+pub puts_by : {X : Type 0} (lists lists' : Lent) (n n' : Flow) (x y : Record) → y ≡ x → (line : ℕ) (r : Result X Fault) (A : Type 0) (B : Fault → Type 0) → MatchResult r (λ _. A) B
+    → (A → (before : Lent) (rs : List Record) → Kept before lists n rs → (misplaced (room_in before) rs x ≡ None) × Kept before lists' n' (rs ++ x ∷ []))
+    → ((f : Fault) → B f → (before : Lent) (rs : List Record) → Kept before lists n rs → (misplaced (room_in before) rs x ≡ Some (f.cause, f.field)) × (f.line ≡ line) × Kept before lists' n' rs)
+    → Puts lists lists' n n' y line r
+puts_by lists lists' n n' x y is line r A B h good bad =
+    let P : Record → Type 0 = λ z. Puts lists lists' n n' z line r in
+    subst P (sym is) (record { puts = λ before rs k. MatchResult-weaker r h (λ u a. good a before rs k) (λ f b. bad f b before rs k) })

@@ -1,5 +1,8 @@
 -- What the lines so far have come to.
-use Rattle.std.proofs.Common.{◌≡◌, ℕ, ◌+◌, ◌<◌, List, [], ◌∷◌, ◌++◌, length, Some, None, Ok, Err, sym, refl, ap, ◌∙◌, subst}
+use Rattle.std.proofs.Common.{◌≡◌, ℕ, ◌+◌, ◌<◌, ◌≤◌, ◌⊎◌, List, [], ◌∷◌, ◌++◌, length, Some, None, Ok, Err, sym, refl, ap, ◌∙◌, subst, inl, inr}
+use Rattle.records.specs.declared.Transition as transition
+use Rattle.records.specs.declared.Divergence as divergence
+use Rattle.records.specs.declared.Label as label
 use Rattle.fields.specs.Faults.{fault}
 use Rattle.fields.specs.Pieces.{pieces}
 use Rattle.fields.specs.declared.fault.Cause.TheVariants.{Size, Form}
@@ -9,7 +12,7 @@ use Rattle.lines.specs.Texts.{Sized, outcome, body, refused, Exact}
 use Rattle.lines.proofs.Filling.{untouched}
 use Rattle.lines.proofs.Steps as step
 use Rattle.lines.proofs.Outcomes.{exact}
-use Rattle.flow_text.specs.Flows.{flow_kind, record_kinds, flow_grammar, Room, Lent, misplaced, room_in, Holds, Kept}
+use Rattle.flow_text.specs.Flows.{flow_kind, record_kinds, flow_grammar, Room, Lent, lent, misplaced, room_in, Holds, Kept}
 use Rattle.flow_text.specs.Reading.{Accepts, Refuses}
 use Rattle.flow_text.specs.Filling.{Sofar}
 use Rattle.flow_text.specs.declared.record.Record.{Record}
@@ -25,11 +28,11 @@ module _ (text : List ℕ) (before : Lent) where
   refused_early : (f : Fault) → outcome (flow_grammar (room_in before)) text ≡ refused f [] → Refuses text f before before
   refused_early f e = record { records = []; first = e; holds = record { transitions = untouched _; divergences = untouched _; labels = untouched _ } }
 
-  pub unsized : (Sized text → ⊥) → Refuses text (fault Size 0 0) before before
+  unsized : (Sized text → ⊥) → Refuses text (fault Size 0 0) before before
   unsized h = refused_early (fault Size 0 0) (step.unsized _ text h)
 
   module _ (size : Sized text) where
-    pub head_unended : (f : Fault) (l : List ℕ) → pieces 10 text ≡ l ∷ [] → f ≡ fault Form 1 0 → Refuses text f before before
+    head_unended : (f : Fault) (l : List ℕ) → pieces 10 text ≡ l ∷ [] → f ≡ fault Form 1 0 → Refuses text f before before
     head_unended f l is e =
         let P : Fault → Type 0 = λ x. Refuses text x before before in
         subst P (sym e) (refused_early (fault Form 1 0) (step.head_unended _ text size l is))
@@ -44,6 +47,11 @@ module _ (text : List ℕ) (before : Lent) where
         goes = step.headed _ text size l rest is flow.counts e ∙ ap (λ i. body (flow_grammar (room_in before)) flow.counts [] (i + 1) (pieces 10 rest)) (sym n);
         kept = record { transitions = record { filled = untouched _; count = t }; divergences = record { filled = untouched _; count = u }; labels = record { filled = untouched _; count = p } };
       }
+
+  -- the text has no first line
+  pub unbegun : (f : Fault) → ((Sized text → ⊥) × (f ≡ fault Size 0 0)) ⊎ ((0 < length text) × (length text ≤ 32768) × (pieces 10 text ≡ text ∷ []) × (f ≡ fault Form 1 0)) → Refuses text f before before
+  unbegun f (inl u) = let P : Fault → Type 0 = λ x. Refuses text x before before in subst P (sym u.1) (unsized u.0)
+  unbegun f (inr u) = head_unended (u.0, u.1) f text u.2 u.3
 
   module _ (after : Lent) (flow : Flow) (rest : List ℕ) (count : ℕ) (s : Sofar text before after flow rest count) where
     stopped : (f : Fault) (after' : Lent) (flow' : Flow) → body (flow_grammar (room_in before)) flow.counts s.records (count + 1) (pieces 10 rest) ≡ refused f s.records → Kept before after' flow' s.records → Refuses text f before after'
@@ -82,10 +90,16 @@ module _ (text : List ℕ) (before : Lent) where
             }
 
 -- the same lists, under other names
-pub refused_as : (text : List ℕ) (f : Fault) (before after after' : Lent) → Refuses text f before after → after.transitions ≡ after'.transitions → after.divergences ≡ after'.divergences → after.labels ≡ after'.labels → Refuses text f before after'
-refused_as text f before after after' r t u p =
-    let P : Lent → Type 0 = λ l. Refuses text f before l in subst P (λ i. record { transitions = t i; divergences = u i; labels = p i }) r
+pub same : (ts ts' : List transition.Transition) (us us' : List divergence.Divergence) (ps ps' : List label.Label) → ts ≡ ts' → us ≡ us' → ps ≡ ps' → lent ts us ps ≡ lent ts' us' ps'
+same ts ts' us us' ps ps' t u p = λ i. record { transitions = t i; divergences = u i; labels = p i }
 
-pub accepted_as : (text : List ℕ) (flow : Flow) (before after after' : Lent) → Accepts text flow before after → after.transitions ≡ after'.transitions → after.divergences ≡ after'.divergences → after.labels ≡ after'.labels → Accepts text flow before after'
-accepted_as text flow before after after' r t u p =
-    let P : Lent → Type 0 = λ l. Accepts text flow before l in subst P (λ i. record { transitions = t i; divergences = u i; labels = p i }) r
+module _ (text : List ℕ) (before before' after after' : Lent) (b : before ≡ before') (a : after ≡ after') where
+  pub refused_as : (f : Fault) → Refuses text f before after → Refuses text f before' after'
+  refused_as f r =
+      let P : Lent → Type 0 = λ l. Refuses text f l after' in
+      let Q : Lent → Type 0 = λ l. Refuses text f before l in subst P b (subst Q a r)
+
+  pub accepted_as : (flow : Flow) → Accepts text flow before after → Accepts text flow before' after'
+  accepted_as flow r =
+      let P : Lent → Type 0 = λ l. Accepts text flow l after' in
+      let Q : Lent → Type 0 = λ l. Accepts text flow before l in subst P b (subst Q a r)

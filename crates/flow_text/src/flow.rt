@@ -4,14 +4,16 @@ ghost use Rattle.lines.specs.Texts.{Exact};
 ghost use Rattle.flow_text.specs.Flows.{Room, flow_grammar, lent};
 
 use crate::counts::Flow;
-use crate::lists::Lent;
+use crate::filling::Filling;
+use crate::lists::fill;
 use crate::record::read_counts;
-use fields::fault::{Cause, Fault};
+use fields::fault::Fault;
 use fields::lines::Lines;
 use records::{Divergence, Label, Transition};
 
 /// Reads a flow text. Its records go to the front of the lists; on a refusal the lists hold the records of the
 /// lines before the fault. Other places stay as they were.
+// The lists are three slices: a clause names what stands in a struct of them afterwards only by place, as `exit.1.1.0`.
 pub fn read_flow(
     text: &[u8],
     transitions: &mut [Transition],
@@ -22,33 +24,24 @@ pub fn read_flow(
         (λ flow. Accepts text.now flow (lent transitions.old divergences.old labels.old) (lent transitions.new divergences.new labels.new))
         (λ f. Refuses text.now f (lent transitions.old divergences.old labels.old) (lent transitions.new divergences.new labels.new)) }
 {
-    let size = Fault {
-        cause: Cause::Size,
-        line: 0,
-        field: 0,
-    };
-    if text.len() > 32768 {
-        return Err(size);
-    }
-    let mut lines = Lines::new(text);
-    let Some(first) = lines.next_line() else {
-        return Err(size);
-    };
-    let counts = read_counts(first?, 1)?;
-    let flow = Flow {
+    let (first, lines) = Lines::of_text(text)?;
+    let counts = read_counts(first)?;
+    let mut transitions = Filling::new(transitions);
+    let mut divergences = Filling::new(divergences);
+    let mut labels = Filling::new(labels);
+    fill(
+        lines,
         counts,
-        transitions: 0,
-        divergences: 0,
-        labels: 0,
-    };
-    let mut lent = Lent {
-        transitions,
-        divergences,
-        labels,
-        flow,
-    };
-    lent.fill(lines)?;
-    Ok(lent.flow)
+        &mut transitions,
+        &mut divergences,
+        &mut labels,
+    )?;
+    Ok(Flow {
+        counts,
+        transitions: transitions.used,
+        divergences: divergences.used,
+        labels: labels.used,
+    })
 }
 
 /// A flow text has at most one reading. It is accepted exactly where it has one within the room, and else refused at
@@ -63,6 +56,7 @@ pub fn flow_reading_is_exact() -> bool
 #[cfg(test)]
 mod tests {
     use super::*;
+    use fields::fault::Cause;
 
     const NO_TRANSITION: Transition = Transition {
         source: 9,
@@ -85,7 +79,7 @@ mod tests {
     }
 
     fn refused(cause: Cause, line: usize, field: usize) -> Result<Flow, Fault> {
-        Err(Fault { cause, line, field })
+        Err(cause.at(line, field))
     }
 
     #[test]

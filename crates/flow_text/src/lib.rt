@@ -2,6 +2,7 @@
 #![tactic(auto)]
 
 pub mod counts;
+mod filling;
 pub mod flow;
 mod lists;
 pub mod record;

@@ -1,16 +1,13 @@
-ghost use Rattle.std.specs.Prelude.{◌≡◌, ℕ, ◌+◌, ◌<◌, ◌≤◌, ◌⊎◌, length, take, MatchResult, slice_set};
-ghost use Rattle.std.specs.List.{ContainsAt as Has};
-ghost use Rattle.fields.specs.Faults.{fault};
-ghost use Rattle.fields.specs.declared.fault.Cause.TheVariants.{Repeated, Full};
+ghost use Rattle.std.specs.Prelude.{◌≡◌, ℕ};
+ghost use Rattle.records.specs.declared.Counts.{Counts};
 ghost use Rattle.flow_text.specs.Flows.{lent, Puts};
-ghost use Rattle.flow_text.specs.Filling.{Fills};
-ghost use Rattle.flow_text.specs.Lists.{Lawful, Unplaced};
+ghost use Rattle.flow_text.specs.Filling.{Fills, flow};
 
-use crate::counts::Flow;
+use crate::filling::Filling;
 use crate::record::{Record, read_record};
-use fields::fault::{Cause, Fault};
-use fields::lines::Lines;
-use records::{Divergence, Label, Transition};
+use fields::fault::Fault;
+use fields::lines::{Lines, RawLine};
+use records::{Counts, Divergence, Label, Transition};
 
 const MOST_TRANSITIONS: usize = 2048;
 
@@ -18,87 +15,51 @@ const MOST_DIVERGENCES: usize = 1024;
 
 const MOST_LABELS: usize = 2048;
 
-/// Puts `item` behind the `used` first of the list, which takes `most` at most.
-fn add<T: Copy + PartialEq>(
-    list: &mut [T],
-    used: usize,
-    most: usize,
-    item: T,
-    line: usize,
-) -> Result<usize, Fault>
-    requires { Lawful (λ x' y' r'. r' ≡ T.PartialEq.eq x' y') }
-    ensures { used ≤ length list.old → MatchResult result
-        (λ n. (n ≡ used + 1) × (used < length list.old) × (used < most) × (Has (take used list.old) item → ⊥) × (list.new ≡ slice_set list.old used item))
-        (λ f. Unplaced list.old used most item line f × (list.new ≡ list.old)) }
+/// The lent list of transitions.
+pub type Transitions<'a> = Filling<'a, Transition, MOST_TRANSITIONS>;
+
+/// The lent list of divergences.
+pub type Divergences<'a> = Filling<'a, Divergence, MOST_DIVERGENCES>;
+
+/// The lent list of labels.
+pub type Labels<'a> = Filling<'a, Label, MOST_LABELS>;
+
+// The three lists are no struct: a proof loses a slice that lies in a struct in a struct.
+
+/// Puts the record behind those of its kind.
+fn put(
+    x: Record,
+    line: RawLine<'_>,
+    transitions: &mut Transitions<'_>,
+    divergences: &mut Divergences<'_>,
+    labels: &mut Labels<'_>,
+) -> Result<(), Fault>
+    ensures put { (counts : Counts) → Puts (lent transitions.old.places.now divergences.old.places.now labels.old.places.now) (lent transitions.new.places.now divergences.new.places.now labels.new.places.now) (flow counts transitions.old.used divergences.old.used labels.old.used) (flow counts transitions.new.used divergences.new.used labels.new.used) x line.entry.number result }
+    ensures names { (transitions.new.places.ghost_name ≡ transitions.old.places.ghost_name) × (divergences.new.places.ghost_name ≡ divergences.old.places.ghost_name) × (labels.new.places.ghost_name ≡ labels.old.places.ghost_name) }
 {
-    let full = Fault {
-        cause: Cause::Full,
-        line,
-        field: 0,
-    };
-    if used > list.len() {
-        return Err(full);
+    match x {
+        Record::Transition(x) => transitions.add(x, line),
+        Record::Divergence(x) => divergences.add(x, line),
+        Record::Label(x) => labels.add(x, line),
     }
-    if list[0..used].contains(&item) {
-        return Err(Fault {
-            cause: Cause::Repeated,
-            line,
-            field: 0,
-        });
-    }
-    if used >= list.len().min(most) {
-        return Err(full);
-    }
-    list[used] = item;
-    Ok(used + 1)
 }
 
-/// The lists that a caller lends, and how much of them is used.
-#[derive(Drop)]
-pub struct Lent<'a> {
-    pub transitions: &'a mut [Transition],
-    pub divergences: &'a mut [Divergence],
-    pub labels: &'a mut [Label],
-    pub flow: Flow,
-}
-
-impl Lent<'_> {
-    /// Puts the record behind those of its kind.
-    pub fn put(&mut self, x: Record, line: usize) -> Result<(), Fault>
-        ensures put { Puts (lent self.old.transitions.now self.old.divergences.now self.old.labels.now) (lent self.new.transitions.now self.new.divergences.now self.new.labels.now) self.old.flow self.new.flow x line result }
-        ensures names { (self.new.transitions.ghost_name ≡ self.old.transitions.ghost_name) × (self.new.divergences.ghost_name ≡ self.old.divergences.ghost_name) × (self.new.labels.ghost_name ≡ self.old.labels.ghost_name) }
-        ensures counts { self.new.flow.counts ≡ self.old.flow.counts }
-    {
-        match x {
-            Record::Transition(x) => {
-                let used = self.flow.transitions;
-                self.flow.transitions = add(self.transitions, used, MOST_TRANSITIONS, x, line)?;
-                Ok(())
-            }
-            Record::Divergence(x) => {
-                let used = self.flow.divergences;
-                self.flow.divergences = add(self.divergences, used, MOST_DIVERGENCES, x, line)?;
-                Ok(())
-            }
-            Record::Label(x) => {
-                let used = self.flow.labels;
-                self.flow.labels = add(self.labels, used, MOST_LABELS, x, line)?;
-                Ok(())
-            }
-        }
+/// Reads the lines after the first and puts their records into the lists.
+pub fn fill(
+    lines: Lines<'_>,
+    counts: Counts,
+    transitions: &mut Transitions<'_>,
+    divergences: &mut Divergences<'_>,
+    labels: &mut Labels<'_>,
+) -> Result<(), Fault>
+    ensures fills { Fills (lent transitions.old.places.now divergences.old.places.now labels.old.places.now) (lent transitions.new.places.now divergences.new.places.now labels.new.places.now) (flow counts transitions.old.used divergences.old.used labels.old.used) (flow counts transitions.new.used divergences.new.used labels.new.used) lines.entry.rest.now lines.entry.count result }
+    ensures names { (transitions.new.places.ghost_name ≡ transitions.old.places.ghost_name) × (divergences.new.places.ghost_name ≡ divergences.old.places.ghost_name) × (labels.new.places.ghost_name ≡ labels.old.places.ghost_name) }
+{
+    let mut lines = lines;
+    while let Some(line) = lines.next_line() {
+        let line = line?;
+        let x = read_record(line, counts)?;
+        put(x, line, transitions, divergences, labels)?;
     }
-
-    /// Reads the lines after the first and puts their records into the lists.
-    pub fn fill(&mut self, lines: Lines<'_>) -> Result<(), Fault>
-        ensures fills { Fills (lent self.old.transitions.now self.old.divergences.now self.old.labels.now) (lent self.new.transitions.now self.new.divergences.now self.new.labels.now) self.old.flow self.new.flow lines.entry.rest.now lines.entry.count result }
-        ensures names { (self.new.transitions.ghost_name ≡ self.old.transitions.ghost_name) × (self.new.divergences.ghost_name ≡ self.old.divergences.ghost_name) × (self.new.labels.ghost_name ≡ self.old.labels.ghost_name) }
-    {
-        let mut lines = lines;
-        while let Some(line) = lines.next_line() {
-            let number = lines.done();
-            let x = read_record(line?, self.flow.counts, number)?;
-            self.put(x, number)?;
-        }
-        Ok(())
-    }
+    Ok(())
 }

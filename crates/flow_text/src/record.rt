@@ -4,8 +4,10 @@ ghost use Rattle.lines.specs.Kinds.{says};
 ghost use Rattle.flow_text.specs.Flows.{flow_kind, record_kinds};
 
 use fields::fault::{Cause, Fault};
+use fields::lines::RawLine;
+use lines::limits::Limits;
 use lines::line::{Line, read_line};
-use lines::numbers::{Limits, three_numbers, two_numbers};
+use lines::numbers::all_within;
 use records::{Counts, Divergence, Label, Transition};
 
 /// What a line after the first says.
@@ -17,32 +19,25 @@ pub enum Record {
 }
 
 /// The counts that the first line says.
-pub fn read_counts(bytes: &[u8], line: usize) -> Result<Counts, Fault>
+pub fn read_counts(line: RawLine<'_>) -> Result<Counts, Fault>
     ensures { MatchResult result
-        (λ n. says (flow_kind ∷ []) (pieces 44 bytes.now) ≡ Ok n)
-        (λ f. (says (flow_kind ∷ []) (pieces 44 bytes.now) ≡ Err (f.cause, f.field)) × (f.line ≡ line)) }
+        (λ n. says (flow_kind ∷ []) (pieces 44 line.entry.bytes.now) ≡ Ok n)
+        (λ f. (says (flow_kind ∷ []) (pieces 44 line.entry.bytes.now) ≡ Err (f.cause, f.field)) × (f.line ≡ line.entry.number)) }
 {
     let Line::Flow {
         states,
         actions,
         atoms,
-    } = read_line(bytes, line)?
+    } = read_line(line)?
     else {
-        return Err(Fault {
-            cause: Cause::Form,
-            line,
-            field: 0,
-        });
+        return Err(line.fault(Cause::Form, 0));
     };
-    let (states, actions, atoms) = three_numbers(
-        states,
-        actions,
-        atoms,
-        Limits { low: 1, past: 1025 },
-        Limits { low: 1, past: 65 },
-        Limits { low: 0, past: 65 },
-        line,
-    )?;
+    let numerals = [
+        Limits { low: 1, past: 1025 }.read(line, 2, states)?,
+        Limits { low: 1, past: 65 }.read(line, 3, actions)?,
+        Limits { low: 0, past: 65 }.read(line, 4, atoms)?,
+    ];
+    let [states, actions, atoms] = all_within(line, numerals)?;
     Ok(Counts {
         states,
         actions,
@@ -61,23 +56,26 @@ fn below(count: u16) -> Limits
 }
 
 /// The record that a later line says.
-pub fn read_record(bytes: &[u8], counts: Counts, line: usize) -> Result<Record, Fault>
+pub fn read_record(line: RawLine<'_>, counts: Counts) -> Result<Record, Fault>
     ensures { MatchResult result
-        (λ x. says (record_kinds counts) (pieces 44 bytes.now) ≡ Ok x)
-        (λ f. (says (record_kinds counts) (pieces 44 bytes.now) ≡ Err (f.cause, f.field)) × (f.line ≡ line)) }
+        (λ x. says (record_kinds counts) (pieces 44 line.entry.bytes.now) ≡ Ok x)
+        (λ f. (says (record_kinds counts) (pieces 44 line.entry.bytes.now) ≡ Err (f.cause, f.field)) × (f.line ≡ line.entry.number)) }
 {
     let states = below(counts.states);
     let actions = below(counts.actions);
     let atoms = below(counts.atoms);
-    match read_line(bytes, line)? {
+    match read_line(line)? {
         Line::Transition {
             source,
             action,
             target,
         } => {
-            let (source, action, target) = three_numbers(
-                source, action, target, states, actions, states, line,
-            )?;
+            let numerals = [
+                states.read(line, 2, source)?,
+                actions.read(line, 3, action)?,
+                states.read(line, 4, target)?,
+            ];
+            let [source, action, target] = all_within(line, numerals)?;
             Ok(Record::Transition(Transition {
                 source,
                 action,
@@ -85,17 +83,15 @@ pub fn read_record(bytes: &[u8], counts: Counts, line: usize) -> Result<Record, 
             }))
         }
         Line::Divergence { state, action } => {
-            let (state, action) = two_numbers(state, action, states, actions, line)?;
+            let numerals = [states.read(line, 2, state)?, actions.read(line, 3, action)?];
+            let [state, action] = all_within(line, numerals)?;
             Ok(Record::Divergence(Divergence { state, action }))
         }
         Line::Label { atom, state } => {
-            let (atom, state) = two_numbers(atom, state, atoms, states, line)?;
+            let numerals = [atoms.read(line, 2, atom)?, states.read(line, 3, state)?];
+            let [atom, state] = all_within(line, numerals)?;
             Ok(Record::Label(Label { atom, state }))
         }
-        _ => Err(Fault {
-            cause: Cause::Form,
-            line,
-            field: 0,
-        }),
+        _ => Err(line.fault(Cause::Form, 0)),
     }
 }

@@ -1,4 +1,3 @@
 pub mod Parts
 pub mod Jobs
 pub mod Reading
-pub mod Spelling

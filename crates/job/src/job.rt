@@ -9,8 +9,7 @@ ghost use Rattle.job.specs.Reading.{AcceptsTexts, RefusesTexts, Accepts, Refuses
 ghost use Rattle.job.specs.declared.fault.Part.TheVariants.{Whole};
 
 use crate::fault::{JobFault, Part};
-use fields::fault::{Cause, Fault};
-use fields::lines::Lines;
+use fields::lines::{Lines, check_size};
 use flow_text::counts::Flow;
 use flow_text::flow::read_flow;
 use records::{Divergence, EquationRecord, Label, Transition};
@@ -47,13 +46,7 @@ impl<'a> Job<'a> {
             (λ j. Sized text.now × Splits text.now j.flow.now j.rulebook.now)
             (λ e. (Sized text.now → ⊥) × (e ≡ job_fault Whole (fault Size 0 0))) }
     {
-        if text.len() == 0 || text.len() > 32768 {
-            return Part::Whole.hold(Err(Fault {
-                cause: Cause::Size,
-                line: 0,
-                field: 0,
-            }));
-        }
+        Part::Whole.hold(check_size(text))?;
         let (flow, rulebook) = text.split_at(rulebook_at(text));
         Ok(Job { flow, rulebook })
     }

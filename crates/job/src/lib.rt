@@ -3,4 +3,3 @@
 
 pub mod fault;
 pub mod job;
-mod spelling;

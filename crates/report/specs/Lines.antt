@@ -8,8 +8,8 @@ use Rattle.records.specs.declared.Label.{Label}
 use Rattle.records.specs.declared.EquationRecord.{EquationRecord}
 use Rattle.records.specs.Spelling.{counts_text, transition_text, divergence_text, label_text}
 use Rattle.rulebook_text.specs.declared.equation.Rulebook.{Rulebook}
-use Rattle.rulebook_text.specs.Spelling.{rulebook_text}
-use Rattle.job.specs.Spelling.{fault_text}
+use Rattle.rulebook_text.specs.Rulebooks.{head_text}
+use Rattle.job.specs.Parts.{fault_text}
 use Rattle.job.specs.declared.fault.JobFault.{JobFault}
 
 -- E,part,number,line,field
@@ -34,7 +34,7 @@ label_line x = label_text x ++ codes "\n"
 
 -- R,side,n
 abbrev pub rulebook_line : Rulebook → List ℕ
-rulebook_line b = rulebook_text b ++ codes "\n"
+rulebook_line b = head_text b ++ codes "\n"
 
 -- Q,i,form,first,second
 abbrev pub equation_line : ℕ → EquationRecord → List ℕ

@@ -1,5 +1,5 @@
 -- What the lines so far have come to.
-use Rattle.std.proofs.Common.{◌≡◌, ℕ, suc, ◌+◌, ◌<◌, ◌≤◌, Bool, true, false, cond, ltb, List, [], ◌∷◌, ◌++◌, length, set, Some, None, Ok, Err, Option, sym, refl, ap, ◌∙◌, subst, inl, inr, arith}
+use Rattle.std.proofs.Common.{◌≡◌, ℕ, suc, ◌+◌, ◌<◌, ◌≤◌, ◌⊎◌, Bool, true, false, cond, ltb, List, [], ◌∷◌, ◌++◌, length, set, Some, None, Ok, Err, Option, sym, refl, ap, ◌∙◌, subst, inl, inr, arith}
 use Rattle.std.proofs.lemmas.List.{length_push}
 use Rattle.std.proofs.lemmas.Bool.{lt-ltb, le-ltb, eq-eqb, ltb-true, cases_lt, cond-true}
 use Rattle.records.specs.declared.EquationRecord.{EquationRecord}
@@ -84,11 +84,11 @@ module _ (text : List ℕ) (before : List EquationRecord) where
   refused_early : (f : Fault) → outcome (rulebook_grammar (length before)) text ≡ refused f [] → Refuses text f before before
   refused_early f e = record { records = []; first = e; filled = untouched before }
 
-  pub unsized : (Sized text → ⊥) → Refuses text (fault Size 0 0) before before
+  unsized : (Sized text → ⊥) → Refuses text (fault Size 0 0) before before
   unsized h = refused_early (fault Size 0 0) (step.unsized _ text h)
 
   module _ (size : Sized text) where
-    pub head_unended : (f : Fault) (l : List ℕ) → pieces 10 text ≡ l ∷ [] → f ≡ fault Form 1 0 → Refuses text f before before
+    head_unended : (f : Fault) (l : List ℕ) → pieces 10 text ≡ l ∷ [] → f ≡ fault Form 1 0 → Refuses text f before before
     head_unended f l is e =
         let P : Fault → Type 0 = λ x. Refuses text x before before in
         subst P (sym e) (refused_early (fault Form 1 0) (step.head_unended _ text size l is))
@@ -103,6 +103,11 @@ module _ (text : List ℕ) (before : List EquationRecord) where
         goes = step.headed _ text size l rest is book e ∙ ap (λ i. body (rulebook_grammar (length before)) book [] (i + 1) (pieces 10 rest)) (sym n);
         row = record { filled = untouched before; count = refl };
       }
+
+  -- the text has no first line
+  pub unbegun : (f : Fault) → ((Sized text → ⊥) × (f ≡ fault Size 0 0)) ⊎ ((0 < length text) × (length text ≤ 32768) × (pieces 10 text ≡ text ∷ []) × (f ≡ fault Form 1 0)) → Refuses text f before before
+  unbegun f (inl u) = let P : Fault → Type 0 = λ x. Refuses text x before before in subst P (sym u.1) (unsized u.0)
+  unbegun f (inr u) = head_unended (u.0, u.1) f text u.2 u.3
 
   module _ (after : List EquationRecord) (book : Rulebook) (rest : List ℕ) (count done : ℕ) (s : Sofar text before after book rest count done) where
     stopped : (f : Fault) (after' : List EquationRecord) → body (rulebook_grammar (length before)) book s.records (count + 1) (pieces 10 rest) ≡ refused f s.records → Filled before (equations_of s.records) after' → Refuses text f before after'
@@ -132,11 +137,19 @@ module _ (text : List ℕ) (before : List EquationRecord) where
         pub unplaced : (f : Fault) → misplaced (length before) book s.records x ≡ Some (f.cause, f.field) → f.line ≡ count + 1 → Filled before (equations_of s.records) after' → Refuses text f before after'
         unplaced f e at k = stopped f after' (step.line_misplaced _ book s.records (count + 1) rest l rest' is x says_x f e at) k
 
-        pub placed : misplaced (length before) book s.records x ≡ None → Filled before (equations_of (s.records ++ x ∷ [])) after' → (count' : ℕ) → count' ≡ count + 1 → Sofar text before after' book rest' count' (done + 1)
-        placed e k count' n = record {
+        pub placed : misplaced (length before) book s.records x ≡ None → Filled before (equations_of (s.records ++ x ∷ [])) after' → (count' : ℕ) → count' ≡ count + 1 → (done' : ℕ) → done' ≡ done + 1 → Sofar text before after' book rest' count' done'
+        placed e k count' n done' d = record {
           records = s.records ++ x ∷ [];
           goes =
               s.goes ∙ step.line_placed _ book s.records (count + 1) rest l rest' is x says_x e
               ∙ ap (λ i. body (rulebook_grammar (length before)) book (s.records ++ x ∷ []) (i + 1) (pieces 10 rest')) (sym n);
-          row = record { filled = k; count = ap (λ i. i + 1) s.row.count ∙ sym (length_push s.records x) };
+          row = record { filled = k; count = d ∙ ap (λ i. i + 1) s.row.count ∙ sym (length_push s.records x) };
         }
+
+-- the same list, under another name
+module _ (text : List ℕ) (before after after' : List EquationRecord) (is : after ≡ after') where
+  pub refused_as : (f : Fault) → Refuses text f before after → Refuses text f before after'
+  refused_as f r = let P : List EquationRecord → Type 0 = λ l. Refuses text f before l in subst P is r
+
+  pub accepted_as : (book : Rulebook) → Accepts text book before after → Accepts text book before after'
+  accepted_as book r = let P : List EquationRecord → Type 0 = λ l. Accepts text book before l in subst P is r

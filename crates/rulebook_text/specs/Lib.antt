@@ -1,4 +1,3 @@
 pub mod Rulebooks
 pub mod Placing
 pub mod Reading
-pub mod Spelling

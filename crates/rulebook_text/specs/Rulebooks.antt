@@ -1,12 +1,13 @@
 -- Rulebook texts: a line R with the side and the number of equations, and then that many lines Q, in turn.
-use Rattle.std.specs.Prelude.{ℕ, cond, ◌||◌, List, [], ◌∷◌, length, Some, None, Option, Result, ◌==◌, nat_lt, slice_index}
+use Rattle.std.specs.Prelude.{ℕ, cond, ◌||◌, ◌++◌, codes, decimal, List, [], ◌∷◌, length, Some, None, Option, Result, ◌==◌, nat_lt, slice_index}
+use Rattle.std.proofs.Math.Utf8.{encode}
+use Rattle.records.specs.Letters.{side_letter}
 use Rattle.records.specs.declared.EquationRecord.{EquationRecord}
 use Rattle.records.specs.declared.Fixpoint.{Fixpoint}
 use Rattle.records.specs.declared.Fixpoint.TheVariants.{Greatest, Least}
 use Rattle.fields.specs.declared.fault.Cause.{Cause}
 use Rattle.fields.specs.declared.fault.Cause.TheVariants.{Full, Turn}
 use Rattle.lines.specs.Kinds.{byte, number, Kind, made, checked}
-use Rattle.lines.specs.Forms.{side_letter}
 use Rattle.lines.specs.Texts.{Grammar}
 use Rattle.rulebook_text.specs.declared.equation.Rulebook.{Rulebook}
 
@@ -16,6 +17,10 @@ rulebook_kind d = record {
   slots = byte 82 ∷ byte (side_letter d) ∷ number 1 1025 ∷ [];
   make = λ ns. record { side = d; equations = slice_index ns 0 };
 }
+
+-- the first line of a rulebook text, without the byte 10 that ends it
+abbrev pub head_text : Rulebook → List ℕ
+head_text b = codes "R," ++ (encode (side_letter b.side) ++ (codes "," ++ decimal b.equations))
 
 -- an equation that a line says, and its number there
 abbrev pub Numbered : Type 0

@@ -1,14 +1,17 @@
-ghost use Rattle.std.specs.Prelude.{◌≡◌, [], ◌∷◌, Ok, Err, MatchResult};
+ghost use Rattle.std.specs.Prelude.{◌≡◌, [], ◌∷◌, ◌≤◌, Some, Ok, Err, MatchResult};
+ghost use Rattle.records.specs.Letters.{form_letter};
 ghost use Rattle.records.specs.declared.Fixpoint.TheVariants.{Greatest, Least};
 ghost use Rattle.fields.specs.Pieces.{pieces};
 ghost use Rattle.lines.specs.Kinds.{says};
-ghost use Rattle.rulebook_text.specs.Rulebooks.{rulebook_kind, equation_kinds, first_past, second_past, as_equation};
+ghost use Rattle.rulebook_text.specs.Rulebooks.{rulebook_kind, head_text, equation_kinds, first_past, second_past, as_equation};
 
 use fields::fault::{Cause, Fault};
-use fields::number::read_number;
+use fields::lines::RawLine;
+use lines::limits::Limits;
 use lines::line::{Line, read_line};
-use lines::numbers::{Limits, within};
-use records::{EquationRecord, Fixpoint};
+use lines::numbers::all_within;
+use records::{EquationRecord, Fixpoint, Form};
+use std::fmt;
 
 /// What the first line of a rulebook text says.
 #[derive(Clone, Copy, Debug, PartialEq, Eq)]
@@ -17,114 +20,97 @@ pub struct Rulebook {
     pub equations: u16,
 }
 
+impl fmt::Display for Rulebook {
+    ghost output = { λ b. Some (head_text b) };
+
+    /// The first line of the text, without the byte 10 that ends it.
+    fn fmt<W: fmt::Write>(&self, f: &mut fmt::Formatter<W>) -> fmt::Result {
+        write!(f, "R,{},{}", char::from(self.side), self.equations)
+    }
+}
+
 /// The side and the number of equations that the first line says.
-pub fn read_head(bytes: &[u8], line: usize) -> Result<Rulebook, Fault>
+pub fn read_head(line: RawLine<'_>) -> Result<Rulebook, Fault>
     ensures { MatchResult result
-        (λ b. says (rulebook_kind Greatest ∷ rulebook_kind Least ∷ []) (pieces 44 bytes.now) ≡ Ok b)
-        (λ f. (says (rulebook_kind Greatest ∷ rulebook_kind Least ∷ []) (pieces 44 bytes.now) ≡ Err (f.cause, f.field)) × (f.line ≡ line)) }
+        (λ b. says (rulebook_kind Greatest ∷ rulebook_kind Least ∷ []) (pieces 44 line.entry.bytes.now) ≡ Ok b)
+        (λ f. (says (rulebook_kind Greatest ∷ rulebook_kind Least ∷ []) (pieces 44 line.entry.bytes.now) ≡ Err (f.cause, f.field)) × (f.line ≡ line.entry.number)) }
 {
-    let Line::Rulebook { side, count } = read_line(bytes, line)? else {
-        return Err(Fault {
-            cause: Cause::Form,
-            line,
-            field: 0,
-        });
+    let Line::Rulebook { side, count } = read_line(line)? else {
+        return Err(line.fault(Cause::Form, 0));
     };
-    let count = read_number(count, line, 3)?;
-    let equations = within(count, Limits { low: 1, past: 1025 }, line, 3)?;
+    let numeral = Limits { low: 1, past: 1025 }.read(line, 3, count)?;
+    let equations = numeral.within(line)?;
     Ok(Rulebook { side, equations })
 }
 
 /// The first number past those of an equation's first place.
-fn first_past(form: char) -> u32
-    ensures { result ≡ first_past form }
+fn first_past(form: Form) -> u32
+    ensures { result ≡ first_past (form_letter form) }
 {
     match form {
-        't' | 'f' => 1,
+        Form::True | Form::False => 1,
         _ => 65536,
     }
 }
 
 /// The first number past those of an equation's second place.
-fn second_past(form: char) -> u32
-    ensures { result ≡ second_past form }
+fn second_past(form: Form) -> u32
+    ensures { result ≡ second_past (form_letter form) }
 {
     match form {
-        't' | 'f' | 'A' => 1,
+        Form::True | Form::False | Form::Atom => 1,
         _ => 65536,
     }
 }
 
+/// The numbers below `past`.
+fn below(past: u32) -> Limits
+    requires { past ≤ 65536 }
+    ensures { (result.low ≡ 0) × (result.past ≡ past) }
+{
+    Limits { low: 0, past }
+}
+
 /// The numbers of an equation of that form.
 fn read_places(
+    line: RawLine<'_>,
     index: &[u8],
-    form: char,
+    form: Form,
     first: &[u8],
     second: &[u8],
-    line: usize,
 ) -> Result<(u16, EquationRecord), Fault>
     ensures { MatchResult result
-        (λ p. as_equation form index.now first.now second.now ≡ Ok p)
-        (λ f. (as_equation form index.now first.now second.now ≡ Err (f.cause, f.field)) × (f.line ≡ line)) }
+        (λ p. as_equation (form_letter form) index.now first.now second.now ≡ Ok p)
+        (λ f. (as_equation (form_letter form) index.now first.now second.now ≡ Err (f.cause, f.field)) × (f.line ≡ line.entry.number)) }
 {
-    let index = read_number(index, line, 2)?;
-    let first = read_number(first, line, 4)?;
-    let second = read_number(second, line, 5)?;
-    let index = within(
-        index,
-        Limits {
-            low: 0,
-            past: 65536,
-        },
-        line,
-        2,
-    )?;
-    let first = within(
+    let numerals = [
+        below(65536).read(line, 2, index)?,
+        below(first_past(form)).read(line, 4, first)?,
+        below(second_past(form)).read(line, 5, second)?,
+    ];
+    let [index, first, second] = all_within(line, numerals)?;
+    let equation = EquationRecord {
+        form: char::from(form),
         first,
-        Limits {
-            low: 0,
-            past: first_past(form),
-        },
-        line,
-        4,
-    )?;
-    let second = within(
         second,
-        Limits {
-            low: 0,
-            past: second_past(form),
-        },
-        line,
-        5,
-    )?;
-    Ok((
-        index,
-        EquationRecord {
-            form,
-            first,
-            second,
-        },
-    ))
+    };
+    Ok((index, equation))
 }
 
 /// The equation that a later line says, and its number there.
-pub fn read_equation(bytes: &[u8], line: usize) -> Result<(u16, EquationRecord), Fault>
+pub fn read_equation(line: RawLine<'_>) -> Result<(u16, EquationRecord), Fault>
     ensures { MatchResult result
-        (λ p. says equation_kinds (pieces 44 bytes.now) ≡ Ok p)
-        (λ f. (says equation_kinds (pieces 44 bytes.now) ≡ Err (f.cause, f.field)) × (f.line ≡ line)) }
+        (λ p. says equation_kinds (pieces 44 line.entry.bytes.now) ≡ Ok p)
+        (λ f. (says equation_kinds (pieces 44 line.entry.bytes.now) ≡ Err (f.cause, f.field)) × (f.line ≡ line.entry.number)) }
 {
     let Line::Equation {
         index,
         form,
         first,
         second,
-    } = read_line(bytes, line)?
+    } = read_line(line)?
     else {
-        return Err(Fault {
-            cause: Cause::Form,
-            line,
-            field: 0,
-        });
+        return Err(line.fault(Cause::Form, 0));
     };
-    read_places(index, form, first, second, line)
+    read_places(line, index, form, first, second)
 }

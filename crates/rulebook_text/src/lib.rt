@@ -3,4 +3,3 @@
 
 pub mod equation;
 pub mod rulebook;
-mod spelling;

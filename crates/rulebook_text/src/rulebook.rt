@@ -1,4 +1,4 @@
-ghost use Rattle.std.specs.Prelude.{◌≡◌, ℕ, true, MatchResult};
+ghost use Rattle.std.specs.Prelude.{◌≡◌, ℕ, ◌+◌, true, IfOk, MatchResult};
 ghost use Rattle.lines.specs.Texts.{Exact};
 ghost use Rattle.rulebook_text.specs.Placing.{Puts};
 ghost use Rattle.rulebook_text.specs.Reading.{Accepts, Refuses};
@@ -6,43 +6,42 @@ ghost use Rattle.rulebook_text.specs.Rulebooks.{rulebook_grammar};
 
 use crate::equation::{Rulebook, read_equation, read_head};
 use fields::fault::{Cause, Fault};
-use fields::lines::Lines;
+use fields::lines::{Lines, RawLine};
 use records::EquationRecord;
 
-/// Puts the equation behind the `done` first ones, where it is next in turn.
-fn put(
-    list: &mut [EquationRecord],
+/// The list that a caller lends, and how many equations stand at its front.
+#[derive(Drop)]
+struct Equations<'a> {
+    list: &'a mut [EquationRecord],
     done: usize,
-    book: Rulebook,
-    x: (u16, EquationRecord),
-    line: usize,
-) -> Result<(), Fault>
-    ensures { Puts list.old list.new done book x line result }
-{
-    let (index, equation) = x;
-    if done >= book.equations as usize {
-        return Err(Fault {
-            cause: Cause::Turn,
-            line,
-            field: 0,
-        });
+}
+
+impl Equations<'_> {
+    /// Puts the equation behind the others, where it is next in turn.
+    fn put(
+        &mut self,
+        book: Rulebook,
+        x: (u16, EquationRecord),
+        line: RawLine<'_>,
+    ) -> Result<(), Fault>
+        ensures put { Puts self.old.list.now self.new.list.now self.old.done book x line.entry.number result }
+        ensures done { IfOk result (λ _. self.new.done ≡ self.old.done + 1) }
+        ensures name { self.new.list.ghost_name ≡ self.old.list.ghost_name }
+    {
+        let (index, equation) = x;
+        if self.done >= usize::from(book.equations) {
+            return Err(line.fault(Cause::Turn, 0));
+        }
+        if usize::from(index) != self.done {
+            return Err(line.fault(Cause::Turn, 2));
+        }
+        if self.done >= self.list.len() {
+            return Err(line.fault(Cause::Full, 0));
+        }
+        self.list[self.done] = equation;
+        self.done += 1;
+        Ok(())
     }
-    if index as usize != done {
-        return Err(Fault {
-            cause: Cause::Turn,
-            line,
-            field: 2,
-        });
-    }
-    if done >= list.len() {
-        return Err(Fault {
-            cause: Cause::Full,
-            line,
-            field: 0,
-        });
-    }
-    list[done] = equation;
-    Ok(())
 }
 
 /// Reads a rulebook text. Its equations go to the front of the list; on a refusal the list holds the equations of the
@@ -52,32 +51,19 @@ pub fn read_rulebook(text: &[u8], equations: &mut [EquationRecord]) -> Result<Ru
         (λ book. Accepts text.now book equations.old equations.new)
         (λ f. Refuses text.now f equations.old equations.new) }
 {
-    let size = Fault {
-        cause: Cause::Size,
-        line: 0,
-        field: 0,
+    let (first, mut lines) = Lines::of_text(text)?;
+    let book = read_head(first)?;
+    let mut equations = Equations {
+        list: equations,
+        done: 0,
     };
-    if text.len() > 32768 {
-        return Err(size);
-    }
-    let mut lines = Lines::new(text);
-    let Some(first) = lines.next_line() else {
-        return Err(size);
-    };
-    let book = read_head(first?, 1)?;
-    let mut done: usize = 0;
     while let Some(line) = lines.next_line() {
-        let number = lines.done();
-        let x = read_equation(line?, number)?;
-        put(equations, done, book, x, number)?;
-        done += 1;
+        let line = line?;
+        let x = read_equation(line)?;
+        equations.put(book, x, line)?;
     }
-    if done < book.equations as usize {
-        return Err(Fault {
-            cause: Cause::Turn,
-            line: lines.done() + 1,
-            field: 0,
-        });
+    if equations.done < usize::from(book.equations) {
+        return Err(Cause::Turn.at(lines.done() + 1, 0));
     }
     Ok(book)
 }
@@ -107,7 +93,7 @@ mod tests {
 
     fn refused(line: usize, field: usize) -> Result<Rulebook, Fault> {
         let cause = Cause::Turn;
-        Err(Fault { cause, line, field })
+        Err(cause.at(line, field))
     }
 
     #[test]

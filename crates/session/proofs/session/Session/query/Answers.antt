@@ -10,4 +10,4 @@ returns-in_err-at g c ready =
 
 pub returns : goal.returns
 returns g c ready =
-    asks _ _ (g.met.S.Source.shows _ ready) _ c.args.self.now.board _ _ _ _ _ _ _ _ (sym c.in_ok-at.ensures) c.turned_at.ensures g.D.Side.starts c.waiting.ensures c.mark_of-mark.ensures c.pinned_at.ensures
+    asks _ _ (g.met.S.Source.shows _ ready) _ c.args.self.now.board _ _ _ _ _ _ _ _ (sym c.in_ok-at.ensures) c.turned_at.ensures (c.START.ensures ∙ g.D.Side.starts) c.waiting.ensures c.mark_of-mark.ensures c.pinned_at.ensures
