@@ -1,6 +1,6 @@
-ghost use Rattle.std.specs.Prelude.{◌≡◌, [], ◌∷◌, Ok, Err, MatchResult};
+ghost use Rattle.std.specs.Prelude.{◌≡◌, [], ◌∷◌};
 ghost use Rattle.fields.specs.Pieces.{pieces};
-ghost use Rattle.lines.specs.Kinds.{says};
+ghost use Rattle.lines.specs.Kinds.{says, Reports};
 ghost use Rattle.flow_text.specs.Flows.{flow_kind, record_kinds};
 
 use fields::fault::{Cause, Fault};
@@ -20,9 +20,7 @@ pub enum Record {
 
 /// The counts that the first line says.
 pub fn read_counts(line: RawLine<'_>) -> Result<Counts, Fault>
-    ensures { MatchResult result
-        (λ n. says (flow_kind ∷ []) (pieces 44 line.entry.bytes.now) ≡ Ok n)
-        (λ f. (says (flow_kind ∷ []) (pieces 44 line.entry.bytes.now) ≡ Err (f.cause, f.field)) × (f.line ≡ line.entry.number)) }
+    ensures { Reports (says (flow_kind ∷ []) (pieces 44 line.entry.bytes.now)) line.entry.number result }
 {
     let Line::Flow {
         states,
@@ -57,9 +55,7 @@ fn below(count: u16) -> Limits
 
 /// The record that a later line says.
 pub fn read_record(line: RawLine<'_>, counts: Counts) -> Result<Record, Fault>
-    ensures { MatchResult result
-        (λ x. says (record_kinds counts) (pieces 44 line.entry.bytes.now) ≡ Ok x)
-        (λ f. (says (record_kinds counts) (pieces 44 line.entry.bytes.now) ≡ Err (f.cause, f.field)) × (f.line ≡ line.entry.number)) }
+    ensures { Reports (says (record_kinds counts) (pieces 44 line.entry.bytes.now)) line.entry.number result }
 {
     let states = below(counts.states);
     let actions = below(counts.actions);

@@ -1,8 +1,9 @@
 -- Kinds of lines: what stands in each field of a line, what the line says, and which of its fields is at fault.
-use Rattle.std.specs.Prelude.{◌≡◌, ℕ, suc, ◌<◌, ◌≤◌, Bool, true, false, cond, not, ◌&&◌, ◌||◌, ◌⊎◌, List, [], ◌∷◌, length, Some, None, Ok, Err, Option, Result, ◌==◌, nat_le, nat_lt}
+use Rattle.std.specs.Prelude.{◌≡◌, ℕ, suc, ◌<◌, ◌≤◌, Bool, true, false, cond, not, ◌&&◌, ◌||◌, ◌⊎◌, List, [], ◌∷◌, length, Some, None, Ok, Err, Option, Result, MatchResult, ◌==◌, nat_le, nat_lt}
 use Rattle.fields.specs.Pieces.{joined, Clear}
 use Rattle.fields.specs.Numbers.{number?, value, Spells}
 use Rattle.fields.specs.declared.fault.Cause.{Cause}
+use Rattle.fields.specs.declared.fault.Fault.{Fault}
 use Rattle.fields.specs.declared.fault.Cause.TheVariants.{Form, Malformed, Range}
 
 -- what stands in a field: one byte, or a number from low to below past
@@ -105,6 +106,10 @@ made f (Err e) = Err e
 abbrev pub says : {R : Type 0} → List (Kind R) → List (List ℕ) → Result R (Cause × ℕ)
 says [] fs = Err (Form, 0)
 says (k ∷ ks) fs = cond (fits k.slots fs) (made k.make (checked 1 k.slots fs)) (says ks fs)
+
+-- the result of a reader of line `line` is what is said there
+abbrev pub Reports : {R : Type 0} → Result R (Cause × ℕ) → ℕ → Result R Fault → Type 0
+Reports said line r = MatchResult r (λ x. said ≡ Ok x) (λ f. (said ≡ Err (f.cause, f.field)) × (f.line ≡ line))
 
 -- The two agree, where the kinds are told apart
 

@@ -2,6 +2,7 @@ ghost use Rattle.std.specs.Prelude.{◌≡◌, ◌≤◌, true, false, Ok, Err, 
 ghost use Rattle.fields.specs.Faults.{fault};
 ghost use Rattle.fields.specs.Numbers.{number?, Spells};
 ghost use Rattle.fields.specs.declared.fault.Cause.TheVariants.{Malformed, Range};
+ghost use Rattle.lines.specs.Kinds.{Reports};
 ghost use Rattle.lines.specs.Ranges.{in_range, ranged};
 
 use crate::limits::Limits;
@@ -54,9 +55,7 @@ pub fn all_within<const N: usize>(
     line: RawLine<'_>,
     numerals: [Numeral; N],
 ) -> Result<[u16; N], Fault>
-    ensures { MatchResult result
-        (λ ns. ranged numerals.entry ≡ Ok ns)
-        (λ f. (ranged numerals.entry ≡ Err (f.cause, f.field)) × (f.line ≡ line.entry.number)) }
+    ensures { Reports (ranged numerals.entry) line.entry.number result }
 {
     let mut numbers = [0; N];
     // by index: under an iterator of `numerals` the proof doesn't know its length where the loop begins

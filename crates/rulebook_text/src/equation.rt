@@ -2,7 +2,7 @@ ghost use Rattle.std.specs.Prelude.{◌≡◌, [], ◌∷◌, ◌≤◌, Some, O
 ghost use Rattle.records.specs.Letters.{form_letter};
 ghost use Rattle.records.specs.declared.Fixpoint.TheVariants.{Greatest, Least};
 ghost use Rattle.fields.specs.Pieces.{pieces};
-ghost use Rattle.lines.specs.Kinds.{says};
+ghost use Rattle.lines.specs.Kinds.{says, Reports};
 ghost use Rattle.rulebook_text.specs.Rulebooks.{rulebook_kind, head_text, equation_kinds, first_past, second_past, as_equation};
 
 use fields::fault::{Cause, Fault};
@@ -31,9 +31,7 @@ impl fmt::Display for Rulebook {
 
 /// The side and the number of equations that the first line says.
 pub fn read_head(line: RawLine<'_>) -> Result<Rulebook, Fault>
-    ensures { MatchResult result
-        (λ b. says (rulebook_kind Greatest ∷ rulebook_kind Least ∷ []) (pieces 44 line.entry.bytes.now) ≡ Ok b)
-        (λ f. (says (rulebook_kind Greatest ∷ rulebook_kind Least ∷ []) (pieces 44 line.entry.bytes.now) ≡ Err (f.cause, f.field)) × (f.line ≡ line.entry.number)) }
+    ensures { Reports (says (rulebook_kind Greatest ∷ rulebook_kind Least ∷ []) (pieces 44 line.entry.bytes.now)) line.entry.number result }
 {
     let Line::Rulebook { side, count } = read_line(line)? else {
         return Err(line.fault(Cause::Form, 0));
@@ -79,9 +77,7 @@ fn read_places(
     first: &[u8],
     second: &[u8],
 ) -> Result<(u16, EquationRecord), Fault>
-    ensures { MatchResult result
-        (λ p. as_equation (form_letter form) index.now first.now second.now ≡ Ok p)
-        (λ f. (as_equation (form_letter form) index.now first.now second.now ≡ Err (f.cause, f.field)) × (f.line ≡ line.entry.number)) }
+    ensures { Reports (as_equation (form_letter form) index.now first.now second.now) line.entry.number result }
 {
     let numerals = [
         below(65536).read(line, 2, index)?,
@@ -99,9 +95,7 @@ fn read_places(
 
 /// The equation that a later line says, and its number there.
 pub fn read_equation(line: RawLine<'_>) -> Result<(u16, EquationRecord), Fault>
-    ensures { MatchResult result
-        (λ p. says equation_kinds (pieces 44 line.entry.bytes.now) ≡ Ok p)
-        (λ f. (says equation_kinds (pieces 44 line.entry.bytes.now) ≡ Err (f.cause, f.field)) × (f.line ≡ line.entry.number)) }
+    ensures { Reports (says equation_kinds (pieces 44 line.entry.bytes.now)) line.entry.number result }
 {
     let Line::Equation {
         index,
