@@ -39,6 +39,7 @@ impl RawLine<'_> {
 }
 
 /// The lines of a text that are still to be read, and how many were.
+// No `Iterator`: a last line that byte 10 does not end stays, so it would come for ever.
 #[derive(Clone, Copy, Debug)]
 pub struct Lines<'a> {
     rest: &'a [u8],

@@ -22,6 +22,7 @@ fn rulebook_at(text: &[u8]) -> usize
     ensures before { (j : ℕ) → j < result → RulebookBegins text.now j → ⊥ }
     ensures there { result < length text.now → RulebookBegins text.now result }
 {
+    // A chain over `windows(2)` would want the text's first byte apart, and is no plainer.
     let mut begins = true;
     for (at, b) in text.iter().enumerate() {
         if begins && *b == b'R' {
