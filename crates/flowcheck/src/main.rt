@@ -9,7 +9,8 @@ use std::io::Read;
 /// One byte more than a job may have, so that an overlong one is known.
 const MOST: usize = 32769;
 
-/// Reads the input to its end and keeps its first bytes.
+/// Reads the input to its end and keeps its first bytes. A loop over chunks: `take` would leave the rest unread, and whoever
+/// writes it cut off.
 fn read_input<R: Read>(input: &mut R, heap: Global) -> io::Result<Vec<u8>> {
     let mut kept = Vec::new(heap);
     let mut chunk = [0u8; 4096];

@@ -66,7 +66,7 @@ impl<'a> Job<'a> {
         Lines::new(self.rulebook)
     }
 
-    /// Reads the flow text and then the rulebook text.
+    /// Reads the flow text and then the rulebook text. The lists are slices of their own, as in `read_flow`.
     pub fn read(
         &self,
         transitions: &mut [Transition],

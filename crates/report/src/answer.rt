@@ -40,7 +40,7 @@ fn push_rulebook(
     push_equations(out, equations)
 }
 
-/// The same with lists that the caller lends.
+/// The same with lists that the caller lends, each a parameter of its own as in `read_job`.
 pub fn answer_with(
     heap: Global,
     job: &[u8],

@@ -68,6 +68,7 @@ pub fn replay_new<S: Source, D: Side>(
     ensures law { S.ready source → IfOk result (λ x. Begins (S.meaning source) D.FIXPOINT calls.now x.1.items x.0.board) }
 {
     let mut session = Session::new(heap, source, side)?;
+    // By `match`: want of memory hands the source and the side back, which `?` would drop.
     match session.replay(heap, calls) {
         Ok(answers) => Ok((session, answers)),
         Err(_) => {

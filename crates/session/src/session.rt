@@ -29,6 +29,7 @@ impl<S: Source, D: Side> Session<S, D> {
         ensures kept { MatchResult result (λ x. (x.source ≡ source) × (x.side ≡ side)) (λ e. (e.source ≡ source) × (e.side ≡ side)) }
         ensures new { IfOk result (λ x. StandsFor (S.meaning x.source) D.FIXPOINT x.board [] no_book) }
     {
+        // By `match`: want of memory hands the source and the side back, which `?` would drop.
         match Board::new(heap) {
             Ok(board) => Ok(Session {
                 source,

@@ -38,6 +38,7 @@ fn some_row_repeats(ends: &[usize], items: &[usize]) -> bool
     requires under { Under 65536 items.now }
     ensures { result ≡ some_twice ends.now items.now }
 {
+    // The stamp numbers the rows, in 16 bits, and indexes nothing: `enumerate` would number them in `usize`, to be cast.
     let mut stamps = [0u16; 65536];
     let mut stamp: u16 = 0;
     let mut from = 0;
@@ -54,7 +55,8 @@ fn some_row_repeats(ends: &[usize], items: &[usize]) -> bool
 /// Whether some pair stands at two places, for at most 2,048 pairs with keys below 1,024 and values below 65,536.
 ///
 /// The values are sorted into rows by their keys, in memory of the stack: this takes a number of steps of the order of
-/// the pairs, and asks for no other memory.
+/// the pairs, and asks for no other memory. `None` says that the pairs are more or larger than that and were not tested;
+/// an error type would have one value and say no more.
 pub fn repeated(pairs: &[(usize, usize)]) -> Option<bool>
     ensures { result ≡ repeated_answer pairs.now }
 {

@@ -54,6 +54,7 @@ impl TableRefusal {
     pub fn number(&self) -> Option<u8>
         ensures { result ≡ table_refusal_number self.now }
     {
+        // A match and no discriminants: want of memory has no number.
         match self {
             TableRefusal::Limit => Some(6),
             TableRefusal::Range => Some(4),
@@ -73,7 +74,8 @@ impl From<AllocError> for TableRefusal {
 
 impl Table {
     /// The table of the records; or the first cause to refuse them. The lists are only lent and stay as they were, and
-    /// nothing is given by value but the counts, which are copied: so there is nothing to hand back.
+    /// nothing is given by value but the counts, which are copied: so there is nothing to hand back. They are parameters of
+    /// their own, so that a caller needs no type of this crate to call.
     pub fn new(
         heap: Global,
         counts: Counts,
