@@ -55,13 +55,11 @@ impl Board {
     pub fn place(&self, s: u16, i: u16) -> Result<usize, Refusal>
         ensures { result ≡ place_of self.now s i }
     {
-        let states = self.states.ok_or(Refusal::NoBook)?;
-        let n = self.equations.len();
-        let (s, i) = (usize::from(s), usize::from(i));
-        if s >= states || i >= n {
-            return Err(Refusal::NoPair);
+        if !self.loaded() {
+            return Err(Refusal::NoBook);
         }
-        Ok(s * n + i)
+        self.pair_place(usize::from(s), usize::from(i))
+            .ok_or(Refusal::NoPair)
     }
 
     /// Whether the pair at a place has turned.

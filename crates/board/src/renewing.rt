@@ -1,13 +1,13 @@
 ghost use Rattle.std.specs.Prelude.{◌≡◌, ◌*◌, ◌≤◌, length, replicate, IfOk, vec_len, vec_capacity, if◌then◌else◌};
-ghost use Rattle.semantics.specs.declared.Refusal.TheVariants.{TooManyPairs};
+ghost use Rattle.std.specs.Result.{is_ok};
 ghost use Rattle.records.specs.Letters.{form_of};
 ghost use Rattle.semantics.specs.Plain.{equation_of, book_of};
 ghost use Rattle.board.specs.State.{blank};
 ghost use Rattle.board.specs.Renewing.{fresh, room?, renewed};
 
-use crate::board::{Board, Cell};
+use crate::board::{Board, Cell, NoRoom};
 use records::EquationRecord;
-use semantics::{Equation, Refusal};
+use semantics::Equation;
 use std::alloc::{AllocError, Global};
 
 // Fills with `n` copies of `x`, in the room that there is.
@@ -18,6 +18,7 @@ fn refill<T: Copy>(v: &mut Vec<T>, n: usize, x: T)
     ensures room { vec_capacity v.old ≤ vec_capacity v.new }
 {
     v.clear();
+    // within the room, so that it is `Ok`
     let _ = v.resize(n, x);
 }
 
@@ -91,13 +92,13 @@ impl Board {
     /// The book of the records, with its links, and nothing turned; or, where there is no room for it, a refusal and no
     /// change.
     #[tactic(auto, unfolding(crate::specs::Renewing::renewed))]
-    pub fn renew(&mut self, states: usize, records: &[EquationRecord]) -> Result<(), Refusal>
-        ensures answer { result ≡ (if room? states (length records.now) then Ok tt else Err TooManyPairs) }
+    pub fn renew(&mut self, states: usize, records: &[EquationRecord]) -> Result<(), NoRoom>
+        ensures answer { is_ok result ≡ room? states (length records.now) }
         ensures after { self.new ≡ renewed states records.now self.old }
     {
         let n = records.len();
         if states > 8192 || n > 1024 || states * n > 8192 {
-            return Err(Refusal::TooManyPairs);
+            return Err(NoRoom);
         }
         self.renew_within(states, records);
         Ok(())

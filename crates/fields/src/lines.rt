@@ -39,7 +39,8 @@ impl RawLine<'_> {
 }
 
 /// The lines of a text that are still to be read, and how many were.
-// No `Iterator`: a last line that byte 10 does not end stays, so it would come for ever.
+// No `Iterator`: a last line that byte 10 does not end stays, so it would come for ever, and a `for` over the lines would
+// have no end to prove.
 #[derive(Clone, Copy, Debug)]
 pub struct Lines<'a> {
     rest: &'a [u8],

@@ -12,7 +12,7 @@ fn digit(b: u8) -> Option<u32>
     char::from(b).to_digit(10)
 }
 
-/// The number that field `at` of line `line` spells.
+/// The number that field `at` of line `line` spells. No `parse`: that takes a sign, and any number of digits.
 pub fn read_number(field: &[u8], line: usize, at: usize) -> Result<u32, Fault>
     ensures { MatchResult result (λ n. Spells field.now n) (λ f. (number? field.now ≡ false) × (f ≡ fault Malformed line at)) }
 {

@@ -5,7 +5,8 @@ ghost use Rattle.flow_text.specs.Lists.{Lawful, Unplaced};
 use fields::fault::{Cause, Fault};
 use fields::lines::RawLine;
 
-/// A list that a caller lends, and how many of its places are used, from its front on. It takes `MOST` at most.
+/// A list that a caller lends, and how many of its places are used, from its front on: there is no heap. It takes `MOST` at
+/// most.
 #[derive(Drop)]
 pub struct Filling<'a, T, const MOST: usize> {
     pub places: &'a mut [T],

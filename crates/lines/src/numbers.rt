@@ -58,7 +58,8 @@ pub fn all_within<const N: usize>(
     ensures { Reports (ranged numerals.entry) line.entry.number result }
 {
     let mut numbers = [0; N];
-    // by index: under an iterator of `numerals` the proof doesn't know its length where the loop begins
+    // By index: the clause of `try_map` does not say that the error is the first one, and under an iterator of `numerals` the
+    // proof does not know their number where the loop begins.
     for i in 0..N {
         numbers[i] = numerals[i].within(line)?;
     }

@@ -80,11 +80,8 @@ impl Case {
     }
 
     /// The queue joined to a fenced layer over the table joined to the queue.
-    fn nested(
-        &self,
-        heap: Global,
-        sets: Vec<SmallSet>,
-    ) -> Result<Joined<Queue, Fenced<Joined<Table, Queue>>>, Unmade> {
+    fn nested(&self, heap: Global) -> Result<Joined<Queue, Fenced<Joined<Table, Queue>>>, Unmade> {
+        let sets = self.sets.clone().map_err(|_| Unmade::Memory)?;
         let queue = self.queue().map_err(Unmade::within)?;
         let both = self.joined(heap).map_err(Unmade::within)?;
         let layer = Fenced::new(both, sets).map_err(|_| Unmade::Within)?;
@@ -114,7 +111,7 @@ fn run(rt: &HostRuntime) -> anyhow::Result<()> {
         rt.print(told(heap, "queue", case.queue())?)?;
         rt.print(told(heap, "joined", case.joined(heap))?)?;
         rt.print(told(heap, "fenced", case.fenced(heap, case.sets.clone()?))?)?;
-        rt.print(told(heap, "nested", case.nested(heap, case.sets.clone()?))?)?;
+        rt.print(told(heap, "nested", case.nested(heap))?)?;
     }
     Ok(())
 }

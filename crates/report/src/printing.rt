@@ -1,4 +1,5 @@
 ghost use Rattle.std.specs.Prelude.{◌≡◌, [], ◌++◌, IsSome, unwrap_or, codes, string_bytes, OnOk};
+ghost use Rattle.std.specs.List.{All};
 ghost use Rattle.report.specs.Lines.{all_lines, equation_lines};
 
 use records::EquationRecord;
@@ -7,7 +8,7 @@ use std::fmt::{Display, Write};
 
 /// Adds a line for each item: what it displays, and the byte 10.
 pub fn push_lines<T: Display>(out: &mut String, items: &[T]) -> Result<(), AllocError>
-    ensures { OnOk result (((x : T) → IsSome (T.output x)) → string_bytes out.new ≡ string_bytes out.old ++ all_lines (λ x. unwrap_or (T.output x) [] ++ codes "\n") items.now) }
+    ensures { OnOk result (All (λ x. IsSome (T.output x)) items.now → string_bytes out.new ≡ string_bytes out.old ++ all_lines (λ x. unwrap_or (T.output x) [] ++ codes "\n") items.now) }
 {
     for item in items {
         writeln!(out, "{item}")?;

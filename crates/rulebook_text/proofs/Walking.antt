@@ -36,10 +36,6 @@ module _ (before : List EquationRecord) (rs : List Numbered) (list : List Equati
   long : length list ≡ length before
   long = filled_long before (equations_of rs) list row.filled
 
-  pub no_room : n < book.equations → x.0 ≡ n → length list ≤ n → misplaced (length before) book rs x ≡ Some (Full, 0)
-  no_room few turn full =
-      rw (lt-ltb (length rs) book.equations (omega (arith, row.count)), eq-eqb x.0 (length rs) (turn ∙ row.count), le-ltb (length rs) (length before) (omega (arith, row.count, long)))
-
   pub put_next : n < book.equations → x.0 ≡ n → n < length list → (misplaced (length before) book rs x ≡ None) × Filled before (equations_of (rs ++ x ∷ [])) (set list n x.1)
   put_next few turn room =
       let P : List EquationRecord → Type 0 = λ ys. Filled before ys (set list n x.1) in (

@@ -61,7 +61,8 @@ fn second_past(form: Form) -> u32
     }
 }
 
-/// The numbers below `past`.
+/// The numbers below `past`. It is of 32 bits, since all numbers of 16 bits are 65,536; a flow text's counts are of 16, and
+/// ask for no bound.
 fn below(past: u32) -> Limits
     requires { past ≤ 65536 }
     ensures { (result.low ≡ 0) × (result.past ≡ past) }

@@ -9,7 +9,8 @@ use fields::fault::{Cause, Fault};
 use fields::lines::{Lines, RawLine};
 use records::EquationRecord;
 
-/// The list that a caller lends, and how many equations stand at its front.
+/// The list that a caller lends, and how many equations stand at its front: there is no heap. An equation goes in by its
+/// turn, and no repetition is sought, so this is no list of records of a flow text.
 #[derive(Drop)]
 struct Equations<'a> {
     list: &'a mut [EquationRecord],

@@ -15,10 +15,6 @@ unfolding every
 every_from zero f h = refl
 every_from (suc n) f h = and_from (every n f) (f n) (every_from n f (λ k l. h k (omega arith))) (h n (omega arith))
 
-pub every_fails : (n k : ℕ) (f : ℕ → Bool) → k < n → f k ≡ false → every n f ≡ false
-every_fails n k f h e =
-    ⊎_elim (λ (q : every n f ≡ true). absurd (both_ways (f k) e (every_at n f q k h))) (λ (q : every n f ≡ false). q) (cases_Bool (every n f))
-
 pub every_eq : (n : ℕ) (f g : ℕ → Bool) → ((k : ℕ) → f k ≡ g k) → every n f ≡ every n g
 unfolding every
 every_eq zero f g e = refl

@@ -132,10 +132,6 @@ pub sum_more : (n : ℕ) (f : ℕ → ℕ) → sum (n + 1) f ≡ sum n f + f n
 unfolding sum
 sum_more n f = rw add-one
 
--- a loop's step
-pub sum_step : (n : ℕ) (f : ℕ → ℕ) (t r : ℕ) → t ≡ sum n f → r ≡ f n → t + r ≡ sum (n + 1) f
-sum_step n f t r et er = omega (arith, sum_more n f)
-
 pub sum_zeros : (n : ℕ) (f : ℕ → ℕ) → ((k : ℕ) → k < n → f k ≡ 0) → sum n f ≡ 0
 sum_zeros n f e = omega (arith, sum_eq n f (λ _. 0) e, sum_const n 0)
 

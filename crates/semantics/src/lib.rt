@@ -69,7 +69,7 @@ pub enum Refusal {
     NoBook = 10,
     /// The session has no such pair.
     NoPair = 11,
-    /// States times equations are over 8,192.
+    /// There are over 8,192 pairs: states times equations.
     TooManyPairs = 12,
     /// The number of equations, a form, a name or an unused place is wrong.
     BadEquation = 13,

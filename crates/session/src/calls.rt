@@ -30,7 +30,7 @@ impl<S: Source, D: Side> Session<S, D> {
         Ok(())
     }
 
-    /// Pins a pair, and says whether it turned now.
+    /// Pins a pair, and says whether it turned now. A pair is its two numbers, here and in `query`: whoever calls has those.
     pub fn pin(&mut self, s: u16, i: u16) -> Result<bool, Refusal>
         ensures call { Answered S.ready S.meaning D.FIXPOINT self.old (pin s i) (pin_reply result) self.new }
         ensures kept { Kept self.old self.new }

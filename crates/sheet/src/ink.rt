@@ -1,7 +1,8 @@
 ghost use Rattle.std.specs.Prelude.{◌≡◌, ℕ, ◌+◌, ◌*◌, ◌^◌, ◌<◌, ◌≤◌, [], ◌∷◌, length, decimal};
 ghost use Rattle.sheet.specs.Pens.{Inked};
 
-/// A buffer, written from its front on, and how many bytes are written. What finds no room is lost, and counted all the same.
+/// A buffer, written from its front on, and how many bytes are written. What finds no room is lost, and counted all the same,
+/// so the place can stand past the end. No `write!`: it answers a `Result` that no clause says is `Ok`, and a sheet cannot fail.
 #[derive(Drop)]
 pub(crate) struct Pen<'a> {
     pub(crate) out: &'a mut [u8],
@@ -9,7 +10,7 @@ pub(crate) struct Pen<'a> {
 }
 
 impl Pen<'_> {
-    // Writes a byte. A test and an index: after `get_mut` on a slice a proof knows no element.
+    // Writes a byte. A test and an index: after `get_mut` on a slice (a `Vec` has it) a proof knows no element.
     #[tactic(auto, unfolding(crate::specs::Ink::inked))]
     fn byte(&mut self, b: u8)
         requires { self.old.at < 2 ^ 32 }

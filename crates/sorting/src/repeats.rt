@@ -38,7 +38,8 @@ fn some_row_repeats(ends: &[usize], items: &[usize]) -> bool
     requires under { Under 65536 items.now }
     ensures { result ≡ some_twice ends.now items.now }
 {
-    // The stamp numbers the rows, in 16 bits, and indexes nothing: `enumerate` would number them in `usize`, to be cast.
+    // The stamp counts the rows in the stamps' 16 bits: under `zip(1u16..)` the loop's proof would know a row's place only by
+    // the length of what two iterators have yielded.
     let mut stamps = [0u16; 65536];
     let mut stamp: u16 = 0;
     let mut from = 0;

@@ -104,7 +104,7 @@ fn note<E: Entry>(entries: &[E], sets: &mut [SmallSet])
 {
     for entry in entries {
         let (key, value) = entry.pair();
-        // by index, since a proof knows no element of a slice after `get_mut`
+        // by index, since a proof knows no element of a slice after `get_mut` (of a `Vec` it does)
         if key < sets.len() {
             sets[key] = sets[key].with(value);
         }
