@@ -1,3 +1,5 @@
+// The text and the source are parameters of each function: a struct of both would be made and taken apart in `report` alone.
+
 use lts::Source;
 use lts::totals::transitions_between;
 use std::alloc::{AllocError, Global};

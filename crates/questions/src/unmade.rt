@@ -4,7 +4,7 @@ use lts::queue::QueueRefusal;
 use std::fmt;
 use table::TableRefusal;
 
-/// Why a source is not made. It is printed as a number, 0 where it has none.
+/// Why a source is not made. It is printed as a number, 0 where it has none, and so holds no more of a refusal.
 #[derive(Clone, Copy)]
 pub(crate) enum Unmade {
     /// it is refused with a number

@@ -30,7 +30,8 @@ fn row_repeats(row: &[usize], stamps: &mut [u16], stamp: u16) -> bool
     false
 }
 
-/// Whether some row has a number twice: row by row, with a stamp for each.
+/// Whether some row has a number twice: row by row, with a stamp for each. The rows lie in arrays on the stack, where those
+/// of `Rows` lie on the heap.
 fn some_row_repeats(ends: &[usize], items: &[usize]) -> bool
     requires few { length ends.now ≤ 1024 }
     requires rising { Rising ends.now }

@@ -8,6 +8,8 @@ use crate::lists::Records;
 use sorting::{counted, sorted};
 use std::alloc::{AllocError, Global};
 
+// Two chains, each as its definition says it: one function that took a closure would have to say of each record what the
+// closure answers.
 impl Records<'_> {
     /// The row of each transition by its action and its target, and its source.
     fn arrivals(&self, heap: Global) -> Result<Vec<(usize, usize)>, AllocError>

@@ -28,7 +28,8 @@ pub struct Table {
     rows: Rows,
     /// the out-degree of s on a, at a × n + s
     degrees: Vec<usize>,
-    // two lists of sets, since each is made by `noted` from records of its own
+    // two lists, each made by `noted` from records of its own: a list of pairs would be filled in two passes, each with a
+    // closure that says which half it fills
     /// for each state, the actions on which it is divergent
     gaps: Vec<SmallSet>,
     /// for each state, the atoms that hold
