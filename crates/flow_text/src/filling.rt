@@ -8,15 +8,15 @@ use fields::lines::RawLine;
 /// A list that a caller lends, and how many of its places are used, from its front on: there is no heap. It takes `MOST` at
 /// most.
 #[derive(Drop)]
-pub struct Filling<'a, T, const MOST: usize> {
-    pub places: &'a mut [T],
-    pub used: usize,
+pub(crate) struct Filling<'a, T, const MOST: usize> {
+    pub(crate) places: &'a mut [T],
+    pub(crate) used: usize,
     ghost fits: { used ≤ length places.now },
 }
 
 impl<'a, T, const MOST: usize> Filling<'a, T, MOST> {
     /// The list with no place used.
-    pub fn new(places: &'a mut [T]) -> Filling<'a, T, MOST>
+    pub(crate) fn new(places: &'a mut [T]) -> Filling<'a, T, MOST>
         ensures name { result.places.ghost_name ≡ places.entry.ghost_name }
         ensures places { result.places.now ≡ places.old }
         ensures used { result.used ≡ 0 }
@@ -27,7 +27,7 @@ impl<'a, T, const MOST: usize> Filling<'a, T, MOST> {
 
 impl<T: Copy + PartialEq, const MOST: usize> Filling<'_, T, MOST> {
     /// Puts `item` behind those in the list.
-    pub fn add(&mut self, item: T, line: RawLine<'_>) -> Result<(), Fault>
+    pub(crate) fn add(&mut self, item: T, line: RawLine<'_>) -> Result<(), Fault>
         requires { Lawful (λ x' y' r'. r' ≡ T.PartialEq.eq x' y') }
         ensures added { MatchResult result
             (λ _. (self.new.used ≡ self.old.used + 1) × (self.old.used < length self.old.places.now) × (self.old.used < MOST) × (Has (take self.old.used self.old.places.now) item → ⊥) × (self.new.places.now ≡ slice_set self.old.places.now self.old.used item))
