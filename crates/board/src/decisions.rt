@@ -1,4 +1,5 @@
-/// How a pair turns once operands of its equation are taken: after the last, if it may turn then, or at the first.
+/// How a pair turns once operands of its equation are taken: after the last, if it may turn then, or at the first. No
+/// `Option<bool>`: the names say what is counted.
 #[derive(Clone, Copy, Debug)]
 pub enum Decision {
     Counted { may_turn: bool },

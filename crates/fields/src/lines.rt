@@ -9,7 +9,7 @@ use crate::fault::{Cause, Fault};
 /// How many bytes a text may have.
 pub const MOST_BYTES: usize = 32768;
 
-/// Refuses a text that is empty or too long.
+/// Refuses a text that is empty or too long. Here and in `of_text` the two bounds are written out: a name would be no shorter.
 pub fn check_size(text: &[u8]) -> Result<(), Fault>
     ensures { MatchResult result
         (λ _. (0 < length text.now) × (length text.now ≤ 32768))

@@ -6,7 +6,7 @@ use fields::fault::{Cause, Fault};
 use fields::lines::RawLine;
 
 /// A list that a caller lends, and how many of its places are used, from its front on: there is no heap. It takes `MOST` at
-/// most.
+/// most. That the slice stays the same one (`ghost_name`) is an equation of its own wherever a caller needs it.
 #[derive(Drop)]
 pub(crate) struct Filling<'a, T, const MOST: usize> {
     pub(crate) places: &'a mut [T],

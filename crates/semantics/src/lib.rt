@@ -13,7 +13,8 @@ ghost use Rattle.semantics.specs.Plain.{equation_of};
 use records::{EquationRecord, Form, UnknownLetter};
 
 /// An equation that is in a book. `Or` and `And` have two variables, `Diamond` and `Box` an action
-/// and a variable, `Atom` an atom; an unused place is 0.
+/// and a variable, `Atom` an atom; an unused place is 0. No enum with parts of its own for each form:
+/// the definitions and the links go by the two places, whatever stands in them.
 #[derive(Clone, Copy, Debug, PartialEq, Eq)]
 pub struct Equation {
     pub form: Form,

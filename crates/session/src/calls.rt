@@ -41,7 +41,8 @@ impl<S: Source, D: Side> Session<S, D> {
         Ok(!turned)
     }
 
-    /// Takes waiting pairs, `budget` at most: whether the session is settled then, the pairs taken and the looks made.
+    /// Takes waiting pairs, `budget` at most: whether the session is settled then, the pairs taken and the looks made. A tuple:
+    /// the three are one answer, and nothing else is made of them.
     pub fn run(&mut self, budget: u16) -> Result<(bool, u16, u64), Refusal>
         ensures call { Answered S.ready S.meaning D.FIXPOINT self.old (run budget) (run_reply result) self.new }
         ensures kept { Kept self.old self.new }
