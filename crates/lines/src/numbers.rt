@@ -5,7 +5,7 @@ ghost use Rattle.fields.specs.declared.fault.Cause.TheVariants.{Malformed, Range
 ghost use Rattle.lines.specs.Kinds.{Reports};
 ghost use Rattle.lines.specs.Ranges.{in_range, ranged};
 
-use crate::limits::Limits;
+pub use crate::limits::Limits;
 use fields::fault::{Cause, Fault};
 use fields::lines::RawLine;
 use fields::number::read_number;

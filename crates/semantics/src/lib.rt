@@ -10,7 +10,8 @@ ghost use Rattle.records.specs.Letters.{form_of};
 ghost use Rattle.semantics.specs.Calls.{number_of};
 ghost use Rattle.semantics.specs.Plain.{equation_of};
 
-use records::{EquationRecord, Form, UnknownLetter};
+pub use records::Form;
+use records::{EquationRecord, UnknownLetter};
 
 /// An equation that is in a book. `Or` and `And` have two variables, `Diamond` and `Box` an action
 /// and a variable, `Atom` an atom; an unused place is 0. No enum with parts of its own for each form:
