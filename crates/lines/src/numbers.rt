@@ -1,8 +1,8 @@
-ghost use Rattle.std.specs.Prelude.{◌≡◌, ◌≤◌, true, false, Ok, Err, MatchResult};
+ghost use Rattle.std.specs.Prelude.{◌≡◌, ◌≤◌, true, false, [], ◌∷◌, Ok, Err, MatchResult};
 ghost use Rattle.fields.specs.Faults.{fault};
 ghost use Rattle.fields.specs.Numbers.{number?, Spells};
 ghost use Rattle.fields.specs.declared.fault.Cause.TheVariants.{Malformed, Range};
-ghost use Rattle.lines.specs.Kinds.{Reports};
+ghost use Rattle.lines.specs.Kinds.{number, checked, Reports};
 ghost use Rattle.lines.specs.Ranges.{in_range, ranged};
 
 pub use crate::limits::Limits;
@@ -64,4 +64,53 @@ pub fn all_within<const N: usize>(
         numbers[i] = numerals[i].within(line)?;
     }
     Ok(numbers)
+}
+
+/// The numbers of fields 2 and 3 of line `line`.
+pub fn two_numbers(
+    a: &[u8],
+    b: &[u8],
+    la: Limits,
+    lb: Limits,
+    line: usize,
+) -> Result<(u16, u16), Fault>
+    ensures { MatchResult result
+        (λ p. checked 2 (number la.low la.past ∷ number lb.low lb.past ∷ []) (a.now ∷ b.now ∷ []) ≡ Ok (p.0 ∷ p.1 ∷ []))
+        (λ f. (checked 2 (number la.low la.past ∷ number lb.low lb.past ∷ []) (a.now ∷ b.now ∷ []) ≡ Err (f.cause, f.field)) × (f.line ≡ line)) }
+{
+    // of the line, only its number counts
+    let raw = RawLine {
+        bytes: a,
+        number: line,
+    };
+    let x = la.read(raw, 2, a)?;
+    let y = lb.read(raw, 3, b)?;
+    let [x, y] = all_within(raw, [x, y])?;
+    Ok((x, y))
+}
+
+/// The numbers of fields 2, 3 and 4 of line `line`.
+pub fn three_numbers(
+    a: &[u8],
+    b: &[u8],
+    d: &[u8],
+    la: Limits,
+    lb: Limits,
+    ld: Limits,
+    line: usize,
+) -> Result<(u16, u16, u16), Fault>
+    ensures { MatchResult result
+        (λ p. checked 2 (number la.low la.past ∷ number lb.low lb.past ∷ number ld.low ld.past ∷ []) (a.now ∷ b.now ∷ d.now ∷ []) ≡ Ok (p.0 ∷ p.1 ∷ p.2 ∷ []))
+        (λ f. (checked 2 (number la.low la.past ∷ number lb.low lb.past ∷ number ld.low ld.past ∷ []) (a.now ∷ b.now ∷ d.now ∷ []) ≡ Err (f.cause, f.field)) × (f.line ≡ line)) }
+{
+    // of the line, only its number counts
+    let raw = RawLine {
+        bytes: a,
+        number: line,
+    };
+    let x = la.read(raw, 2, a)?;
+    let y = lb.read(raw, 3, b)?;
+    let z = ld.read(raw, 4, d)?;
+    let [x, y, z] = all_within(raw, [x, y, z])?;
+    Ok((x, y, z))
 }

@@ -1,14 +1,45 @@
-ghost use Rattle.std.specs.Prelude.{◌≡◌, [], ◌++◌, IsSome, unwrap_or, codes, string_bytes, OnOk};
-ghost use Rattle.std.specs.List.{All};
+ghost use Rattle.std.specs.Prelude.{◌≡◌, [], ◌++◌, IsSome, unwrap_or, codes, string_bytes, refl, OnOk};
 ghost use Rattle.report.specs.Lines.{all_lines, equation_lines};
 
-use records::EquationRecord;
+use job::fault::JobFault;
+use records::{Counts, Divergence, EquationRecord, Label, Transition};
+use rulebook_text::equation::Rulebook;
 use std::alloc::AllocError;
 use std::fmt::{Display, Write};
 
+/// What is printed as one line: a value whose text is known, which `Display` alone leaves open.
+pub trait Printed: Display {
+    /// The text of every value is known.
+    ghost known: { (x : Self) → IsSome (Self.output x) };
+}
+
+impl Printed for JobFault {
+    ghost known = { λ _. refl };
+}
+
+impl Printed for Counts {
+    ghost known = { λ _. refl };
+}
+
+impl Printed for Transition {
+    ghost known = { λ _. refl };
+}
+
+impl Printed for Divergence {
+    ghost known = { λ _. refl };
+}
+
+impl Printed for Label {
+    ghost known = { λ _. refl };
+}
+
+impl Printed for Rulebook {
+    ghost known = { λ _. refl };
+}
+
 /// Adds a line for each item: what it displays, and the byte 10.
-pub fn push_lines<T: Display>(out: &mut String, items: &[T]) -> Result<(), AllocError>
-    ensures { OnOk result (All (λ x. IsSome (T.output x)) items.now → string_bytes out.new ≡ string_bytes out.old ++ all_lines (λ x. unwrap_or (T.output x) [] ++ codes "\n") items.now) }
+pub fn push_lines<T: Printed>(out: &mut String, items: &[T]) -> Result<(), AllocError>
+    ensures { OnOk result (string_bytes out.new ≡ string_bytes out.old ++ all_lines (λ x. unwrap_or (T.output x) [] ++ codes "\n") items.now) }
 {
     for item in items {
         writeln!(out, "{item}")?;

@@ -18,9 +18,9 @@ impl Records<'_> {
         let states = usize::from(self.counts.states);
         self.transitions
             .iter()
-            .map(|x| (
-                usize::from(x.action) * states + usize::from(x.target),
-                usize::from(x.source),
+            .map(|arriving| (
+                usize::from(arriving.action) * states + usize::from(arriving.target),
+                usize::from(arriving.source),
             ))
             .collect(heap)
     }
@@ -32,9 +32,9 @@ impl Records<'_> {
         let states = usize::from(self.counts.states);
         self.transitions
             .iter()
-            .map(|x| (
-                usize::from(x.action) * states + usize::from(x.source),
-                usize::from(x.target),
+            .map(|leaving| (
+                usize::from(leaving.action) * states + usize::from(leaving.source),
+                usize::from(leaving.target),
             ))
             .collect(heap)
     }

@@ -1,6 +1,5 @@
-ghost use Rattle.std.specs.Prelude.{◌≡◌, ℕ, ◌<◌, ◌≤◌, Bool, true, ◌&&◌, ◌||◌, length, None, MatchResult};
+ghost use Rattle.std.specs.Prelude.{◌≡◌, ℕ, ◌<◌, ◌≤◌, Bool, true, ◌&&◌, ◌||◌, length, Some, None, MatchResult};
 ghost use Rattle.table.specs.Records.{each, repeated, same_transition, same_divergence, same_label, counts_inside as counts_in, transition_inside, divergence_inside, label_inside};
-ghost use Rattle.table.specs.Table.{Refuses};
 ghost use Rattle.table.specs.Lists.{few, inside, again, refusal_of};
 
 use crate::TableRefusal;
@@ -47,7 +46,7 @@ impl Records<'_> {
     /// The first cause to refuse the records, where there is one.
     #[tactic(auto, unfolding(crate::specs::Table::table_refusal))]
     pub(crate) fn check(&self) -> Result<(), TableRefusal>
-        ensures { MatchResult result (λ _. refusal_of self.now ≡ None) (λ e. Refuses (refusal_of self.now) e) }
+        ensures { MatchResult result (λ _. refusal_of self.now ≡ None) (λ e. refusal_of self.now ≡ Some e) }
     {
         if !self.few() {
             return Err(TableRefusal::Limit);
