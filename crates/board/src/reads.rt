@@ -1,6 +1,7 @@
 ghost use Rattle.std.specs.Prelude.{◌≡◌, ◌≤◌, false, length, slice_index_or};
 ghost use Rattle.semantics.specs.Equations.{nth};
 ghost use Rattle.board.specs.State.{place_of, waiting};
+ghost use Rattle.board.specs.Room.{Bounded};
 
 use crate::board::Board;
 use semantics::{Equation, Refusal};
@@ -17,6 +18,7 @@ impl Board {
     pub fn states(&self) -> usize
         ensures value { result ≡ self.now.states }
         ensures bound { result ≤ 8192 }
+        ensures bounds { Bounded self.now }
     {
         self.states.unwrap_or(0)
     }
@@ -25,6 +27,7 @@ impl Board {
     pub fn equations(&self) -> usize
         ensures value { result ≡ length self.now.book }
         ensures bound { result ≤ 1024 }
+        ensures bounds { Bounded self.now }
     {
         self.equations.len()
     }

@@ -8,7 +8,7 @@
 
 pub mod accepts;
 pub mod begin;
-mod forms;
+pub mod forms;
 pub mod marks;
 pub mod side;
 pub mod steps;

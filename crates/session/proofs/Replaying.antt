@@ -105,6 +105,10 @@ module _ (F : Lts) (d : Fixpoint) where
             (more ++ x ∷ [], t, makes_more more cs rs c ps r m, so, all_runs F d (es ++ (more ++ x ∷ [])) t so.leads);
       })
 
+  -- the same calls, named otherwise
+  pub replays_all : (σ τ : State) (cs cs' : List Call) (rs : List (Result Answer Refusal)) → cs ≡ cs' → Replays F d σ cs rs τ → Replays F d σ cs' rs τ
+  replays_all σ τ cs cs' rs e r = subst (λ (cs : List Call). Replays F d σ cs rs τ) e r
+
   -- from a new session on
   begun : (σ τ : State) (cs : List Call) (rs : List (Result Answer Refusal)) → StandsFor F d σ [] no_book → Replays F d σ cs rs τ → Begins F d cs rs τ
   begun σ τ cs rs h r = let (es, q, m, st, law) = r.continues [] no_book h in record { history = es; plain = q; makes = m; stands = st; law = law }

@@ -4,7 +4,7 @@ ghost use Rattle.session.specs.Sessions.{Kept, Answered};
 ghost use Rattle.session.specs.Standing.{Replays, Begins};
 
 use crate::session::{Session, Unmade};
-use crate::steps::{Step, steps};
+use crate::steps::{Step, pages};
 use engine::side::Side;
 use lts::Source;
 use semantics::{Answer, Call, Refusal};
@@ -46,10 +46,11 @@ impl<S: Source, D: Side> Session<S, D> {
         ensures law { MatchResult result (λ v. S.ready self.old.source → Replays (S.meaning self.old.source) D.FIXPOINT self.old.board calls.now v.items self.new.board) (λ _. self.new.board ≡ self.old.board) }
         ensures kept { Kept self.old self.new }
     {
-        let steps = steps(heap, calls)?;
+        let pages = pages(heap, calls)?;
         let mut answers = Vec::with_capacity(heap, calls.len())?;
-        for step in steps {
-            let answer = self.make(step);
+        // Side by side: a list of steps would hold each call once more.
+        for (call, page) in calls.iter().zip(pages) {
+            let answer = self.make(Step { call: *call, page });
             answers.push_reserved(answer);
         }
         Ok(answers)

@@ -28,14 +28,13 @@ fn page(heap: Global, call: &Call) -> Result<Vec<u8>, AllocError>
     }
 }
 
-/// Each call, with its page.
-pub(crate) fn steps<'a>(heap: Global, calls: &[Call<'a>]) -> Result<Vec<Step<'a>>, AllocError>
-    ensures { IfOk result (λ v. map (λ s. s.call) v.items ≡ calls.now) }
+/// A page for each call, in order.
+pub(crate) fn pages(heap: Global, calls: &[Call]) -> Result<Vec<Vec<u8>>, AllocError>
+    ensures { IfOk result (λ v. map vec_len v.items ≡ map page_room calls.now) }
 {
-    let mut steps = Vec::with_capacity(heap, calls.len())?;
+    let mut pages = Vec::with_capacity(heap, calls.len())?;
     for call in calls {
-        let page = page(heap, call)?;
-        steps.push_reserved(Step { call: *call, page });
+        pages.push_reserved(page(heap, call)?);
     }
-    Ok(steps)
+    Ok(pages)
 }

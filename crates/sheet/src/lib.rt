@@ -1,5 +1,5 @@
 //! The mark sheet of a board, written into a lent buffer.
 #![tactic(auto)]
 
-mod ink;
+pub mod ink;
 pub mod lines;

@@ -25,15 +25,15 @@ fn share(states: usize, marked: usize) -> usize
     }
 }
 
-// The states at which variable `i` is on.
+// The states at which variable `i` is on: a sum, with no branch on the mark.
 fn on_states<D: Side>(board: &Board, i: usize) -> usize
     requires { i < length board.now.book }
     ensures count { result ≡ count_by (λ s. not (beq (slice_index_or board.now.turned (s * length board.now.book + i) false) (start D.FIXPOINT))) (range_with_len 0 board.now.states) }
     ensures bound { result ≤ 8192 }
 {
     (0..board.states())
-        .filter(|s| board.turned_at(*s * board.equations() + i) != D::START)
-        .count()
+        .map(|s| usize::from(board.turned_at(s * board.equations() + i) != D::START))
+        .sum()
 }
 
 // The line of variable `i`.
