@@ -27,26 +27,26 @@ impl Board {
     pub fn head_at(&self, v: usize) -> Option<usize>
         ensures { link_number result ≡ slice_index self.now.head v }
     {
-        self.head.get(v).copied().flatten()
+        self.head.get(v).copied().flatten().map(usize::from)
     }
 
     /// The operand before `p` that names the same variable, if there is one.
     pub fn next_at(&self, p: usize) -> Option<usize>
         ensures { link_number result ≡ slice_index self.now.next p }
     {
-        self.next.get(p).copied().flatten()
+        self.next.get(p).copied().flatten().map(usize::from)
     }
 
     // Operand `p` becomes the last that names variable `v`; the one before it comes back.
     #[tactic(auto, using(crate::proofs::Cells::writes))]
-    fn replace_head(&mut self, v: usize, p: usize) -> Option<usize>
+    fn replace_head(&mut self, v: usize, p: u16) -> Option<u16>
         ensures before { link_number result ≡ slice_index self.old.head v }
         ensures after { self.new ≡ with_links self.old (slice_set self.old.head v (p + 1)) self.old.next }
     {
         self.head.get_mut(v)?.replace(p)
     }
 
-    fn push_next(&mut self, before: Option<usize>)
+    fn push_next(&mut self, before: Option<u16>)
         requires { length self.old.next < 2048 }
         ensures { self.new ≡ with_links self.old self.old.head (self.old.next ++ (link_number before ∷ [])) }
     {
@@ -56,14 +56,15 @@ impl Board {
     // Links operand `p`.
     #[tactic(auto, unfolding(crate::specs::Links::relink))]
     fn link(&mut self, p: usize)
-        requires { length self.old.next < 2048 }
+        requires room { length self.old.next < 2048 }
+        requires few { p < 2048 }
         ensures { self.new ≡ relink p self.old }
     {
         let Some(v) = variable(self.equation(p / 2), p) else {
             self.push_next(None);
             return;
         };
-        let before = self.replace_head(v, p);
+        let before = self.replace_head(v, p as u16);
         self.push_next(before);
     }
 
