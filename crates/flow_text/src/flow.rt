@@ -79,7 +79,7 @@ mod tests {
     }
 
     fn refused(cause: Cause, line: usize, field: usize) -> Result<Flow, Fault> {
-        Err(cause.at(line, field))
+        Err(Fault { cause, line, field })
     }
 
     #[test]

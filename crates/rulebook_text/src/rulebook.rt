@@ -94,7 +94,7 @@ mod tests {
 
     fn refused(line: usize, field: usize) -> Result<Rulebook, Fault> {
         let cause = Cause::Turn;
-        Err(cause.at(line, field))
+        Err(Fault { cause, line, field })
     }
 
     #[test]
