@@ -5,7 +5,7 @@
 
 pub mod laws;
 
-ghost use Rattle.std.specs.Prelude.{◌≡◌, None, MatchResult};
+ghost use Rattle.std.specs.Prelude.{◌≡◌, None, IsSome, MatchResult};
 ghost use Rattle.records.specs.Letters.{form_of};
 ghost use Rattle.semantics.specs.Calls.{number_of};
 ghost use Rattle.semantics.specs.Plain.{equation_of};
@@ -36,7 +36,7 @@ impl TryFrom<EquationRecord> for Equation {
     type Error = UnknownLetter;
 
     ghost try_from_gives = { λ written r. MatchResult r
-        (λ e. e ≡ equation_of (form_of written.form) written.first written.second)
+        (λ e. IsSome (form_of written.form) × (e ≡ equation_of (form_of written.form) written.first written.second))
         (λ _. form_of written.form ≡ None) };
 
     #[tactic(auto, unfolding(crate::specs::Plain::equation_of))]
