@@ -50,6 +50,7 @@ impl Board {
     {
         let equations = Vec::with_capacity(heap, 1024)?;
         let cells = Vec::with_capacity(heap, 8192)?;
+        let counts = Vec::with_capacity(heap, 8192)?;
         let work = Vec::with_capacity(heap, 8192)?;
         let head = Vec::with_capacity(heap, 1024)?;
         let next = Vec::with_capacity(heap, 2048)?;
@@ -57,6 +58,7 @@ impl Board {
             states: None,
             equations,
             cells,
+            counts,
             work,
             taken: 0,
             looks: 0,
@@ -76,10 +78,10 @@ impl Board {
         let untouched = Cell {
             turned: false,
             pinned: false,
-            count: 0,
         };
         self.work.clear();
         refill(&mut self.cells, states * n, untouched);
+        refill(&mut self.counts, states * n, 0);
         refill(&mut self.head, n, None);
         self.next.clear();
         fill(&mut self.equations, records);
