@@ -4,6 +4,7 @@ ghost use Rattle.board.specs.Each.{each};
 ghost use Rattle.board.specs.State.{with_links};
 ghost use Rattle.board.specs.Links.{variable?, variable, is_first, relink};
 ghost use Rattle.board.specs.View.{link_number};
+ghost use Rattle.board.specs.Room.{Bounded};
 
 use crate::board::Board;
 use records::Form;
@@ -25,14 +26,16 @@ fn variable(equation: Equation, p: usize) -> Option<usize>
 impl Board {
     /// The last operand that names variable `v`, if one does.
     pub fn head_at(&self, v: usize) -> Option<usize>
-        ensures { link_number result ≡ slice_index self.now.head v }
+        ensures value { link_number result ≡ slice_index self.now.head v }
+        ensures bounds { Bounded self.now }
     {
         self.head.get(v).copied().flatten().map(usize::from)
     }
 
     /// The operand before `p` that names the same variable, if there is one.
     pub fn next_at(&self, p: usize) -> Option<usize>
-        ensures { link_number result ≡ slice_index self.now.next p }
+        ensures value { link_number result ≡ slice_index self.now.next p }
+        ensures bounds { Bounded self.now }
     {
         self.next.get(p).copied().flatten().map(usize::from)
     }

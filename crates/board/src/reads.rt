@@ -9,7 +9,8 @@ use semantics::{Equation, Refusal};
 impl Board {
     /// Whether a book is loaded.
     pub fn loaded(&self) -> bool
-        ensures { result ≡ self.now.loaded }
+        ensures value { result ≡ self.now.loaded }
+        ensures bounds { Bounded self.now }
     {
         self.states.is_some()
     }
@@ -34,14 +35,16 @@ impl Board {
 
     /// How many pairs are taken.
     pub fn taken(&self) -> usize
-        ensures { result ≡ self.now.taken }
+        ensures value { result ≡ self.now.taken }
+        ensures bounds { Bounded self.now }
     {
         self.taken
     }
 
     /// The looks made since the book was loaded.
     pub fn looks(&self) -> u64
-        ensures { result ≡ self.now.looks }
+        ensures value { result ≡ self.now.looks }
+        ensures bounds { Bounded self.now }
     {
         self.looks
     }
@@ -49,14 +52,16 @@ impl Board {
     /// The equation of variable `j`.
     #[tactic(auto, using(crate::proofs::Books::reads))]
     pub fn equation(&self, j: usize) -> Equation
-        ensures { result ≡ nth self.now.book j }
+        ensures value { result ≡ nth self.now.book j }
+        ensures bounds { Bounded self.now }
     {
         self.equations.get(j).copied().unwrap_or(Equation::NONE)
     }
 
     /// The place of a pair, or why there is none.
     pub fn place(&self, s: u16, i: u16) -> Result<usize, Refusal>
-        ensures { result ≡ place_of self.now s i }
+        ensures value { result ≡ place_of self.now s i }
+        ensures bounds { Bounded self.now }
     {
         if !self.loaded() {
             return Err(Refusal::NoBook);
@@ -67,21 +72,24 @@ impl Board {
 
     /// Whether the pair at a place has turned.
     pub fn turned_at(&self, at: usize) -> bool
-        ensures { result ≡ slice_index_or self.now.turned at false }
+        ensures value { result ≡ slice_index_or self.now.turned at false }
+        ensures bounds { Bounded self.now }
     {
         self.cells.get(at).is_some_and(|cell| cell.turned)
     }
 
     /// Whether the pair at a place is pinned.
     pub fn pinned_at(&self, at: usize) -> bool
-        ensures { result ≡ slice_index_or self.now.pinned at false }
+        ensures value { result ≡ slice_index_or self.now.pinned at false }
+        ensures bounds { Bounded self.now }
     {
         self.cells.get(at).is_some_and(|cell| cell.pinned)
     }
 
     /// Whether a pair waits.
     pub fn waiting(&self) -> bool
-        ensures { result ≡ waiting self.now }
+        ensures value { result ≡ waiting self.now }
+        ensures bounds { Bounded self.now }
     {
         self.taken < self.work.len()
     }

@@ -13,5 +13,5 @@ returns-clause-wrote g c =
     let z = c.bytes-5.ensures in
     let w = pen_same c.settled_digit.ensures c.bytes-6.ensures in
     let u = c.bytes-7.ensures in
-    let k = pen_same (ap decimal c.looks.ensures) c.number-3.ensures.wrote in
+    let k = pen_same (ap decimal c.looks.ensures.value) c.number-3.ensures.wrote in
     pen_then (pen_then (pen_then (pen_then (pen_then (pen_then (pen_then (pen_then (pen_then (pen_then m l) x) s) y) n) z) w) u) k) c.bytes-8.ensures
