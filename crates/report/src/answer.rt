@@ -3,7 +3,7 @@ ghost use Rattle.flow_text.specs.Flows.{room};
 ghost use Rattle.report.specs.Answers.{Answers, AnswersWithin};
 ghost use Rattle.report.specs.Lines.{counts_line, transition_line, divergence_line, label_line, rulebook_line, all_lines, equation_lines};
 
-use crate::printing::{push_equations, push_lines};
+use crate::printing::{push_equations, push_printed};
 use flow_text::counts::Flow;
 use job::job::read_job;
 use records::{Counts, Divergence, EquationRecord, Label, Transition};
@@ -22,9 +22,9 @@ fn flow_account(
     ensures { IfOk result (λ s. string_bytes s ≡ counts_line counts ++ (all_lines transition_line transitions.now ++ (all_lines divergence_line divergences.now ++ all_lines label_line labels.now))) }
 {
     let mut out = format!(in heap; "{counts}\n")?;
-    push_lines(&mut out, transitions)?;
-    push_lines(&mut out, divergences)?;
-    push_lines(&mut out, labels)?;
+    push_printed(&mut out, transitions)?;
+    push_printed(&mut out, divergences)?;
+    push_printed(&mut out, labels)?;
     Ok(out)
 }
 

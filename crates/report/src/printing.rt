@@ -1,4 +1,5 @@
 ghost use Rattle.std.specs.Prelude.{◌≡◌, [], ◌++◌, IsSome, unwrap_or, codes, string_bytes, refl, OnOk};
+ghost use Rattle.std.specs.List.{All};
 ghost use Rattle.report.specs.Lines.{all_lines, equation_lines};
 
 use job::fault::JobFault;
@@ -37,8 +38,18 @@ impl Printed for Rulebook {
     ghost known = { λ _. refl };
 }
 
-/// Adds a line for each item: what it displays, and the byte 10.
-pub fn push_lines<T: Printed>(out: &mut String, items: &[T]) -> Result<(), AllocError>
+/// Adds a line for each item: what it displays, and the byte 10. The bytes are told where each text is known.
+pub fn push_lines<T: Display>(out: &mut String, items: &[T]) -> Result<(), AllocError>
+    ensures { OnOk result (All (λ x. IsSome (T.output x)) items.now → string_bytes out.new ≡ string_bytes out.old ++ all_lines (λ x. unwrap_or (T.output x) [] ++ codes "\n") items.now) }
+{
+    for shown in items {
+        writeln!(out, "{shown}")?;
+    }
+    Ok(())
+}
+
+/// The same for items whose texts are all known.
+pub fn push_printed<T: Printed>(out: &mut String, items: &[T]) -> Result<(), AllocError>
     ensures { OnOk result (string_bytes out.new ≡ string_bytes out.old ++ all_lines (λ x. unwrap_or (T.output x) [] ++ codes "\n") items.now) }
 {
     for item in items {
@@ -55,4 +66,18 @@ pub fn push_equations(out: &mut String, items: &[EquationRecord]) -> Result<(), 
         writeln!(out, "Q,{i},{},{},{}", e.form, e.first, e.second)?;
     }
     Ok(())
+}
+
+#[cfg(test)]
+mod tests {
+    use super::*;
+
+    // Of a number `Display` is known and `Printed` is not.
+    #[test]
+    fn adds_lines_of_numbers(rt: HostRuntime) {
+        let numbers: [u16; 3] = [7, 0, 8192];
+        let mut out = String::new(rt.alloc());
+        assert!(rt; push_lines(&mut out, &numbers).is_ok());
+        assert_eq!(rt; out.as_str(), "7\n0\n8192\n");
+    }
 }

@@ -3,7 +3,7 @@
 
 use records::{Divergence, EquationRecord, Label, Transition};
 use report::answer::answer_with;
-use report::printing::{push_equations, push_lines};
+use report::printing::{push_equations, push_printed};
 use std::alloc::{AllocError, Global};
 use std::io;
 use std::io::Read;
@@ -90,9 +90,9 @@ fn case_answer(heap: Global, job: &[u8], lengths: Lengths) -> Result<String, All
         &mut equations,
     )?;
     if out.as_bytes().first() == Some(&b'E') {
-        push_lines(&mut out, used(&transitions, transition))?;
-        push_lines(&mut out, used(&divergences, divergence))?;
-        push_lines(&mut out, used(&labels, label))?;
+        push_printed(&mut out, used(&transitions, transition))?;
+        push_printed(&mut out, used(&divergences, divergence))?;
+        push_printed(&mut out, used(&labels, label))?;
         push_equations(&mut out, used(&equations, equation))?;
     }
     out.push_str(".\n")?;

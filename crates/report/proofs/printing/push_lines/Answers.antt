@@ -1,15 +1,12 @@
-use Rattle.std.proofs.Common.{ℕ, ◌+◌, List, [], ◌++◌, unwrap_or, codes, drop, ap, ◌∙◌, refl, arith}
-use Rattle.report.specs.Lines.{all_lines}
-use Rattle.report.proofs.Pushing.{appended, lines_more, lines_all}
+use Rattle.std.proofs.Common.{IsSome, sym, subst, arith}
+use Rattle.report.proofs.Pushing.{line_of, known_more, lines_all}
 use Rattle.report.proofs.printing.push_lines.Goals as goal
 
-pub loop-item-preserved : goal.loop-item-preserved
-loop-item-preserved g c =
-    let line = λ (x : g.row.T.Denot). unwrap_or (g.T.Display.output x) [] ++ codes "\n" in
-    let i = c.loop-item.item-index in
-    let rest = all_lines line (drop (i + 1) c.args.items.now) in
-    ap (λ (b : List ℕ). b ++ rest) (appended (g.T.Display.output c.item-item.result) _ _ (g.met.T.Printed.known c.item-item.result) c.in_ok-writeln.ensures.bytes)
-    ∙ lines_more line c.args.items.now i _ _ c.loop-item.invariant c.item-item.result _ (omega arith) c.item-item.is _ refl
+pub loop-shown-preserved : goal.loop-shown-preserved
+loop-shown-preserved g c known =
+    let i = c.loop-shown.shown-index in
+    let told = subst (λ (x : g.row.T.Denot). IsSome (g.T.Display.output x)) (sym c.shown-item.is) (known i _ (omega arith)) in
+    known_more g.T.Display.output c.args.items.now i _ _ _ c.shown-item.result _ (omega arith) c.shown-item.is told c.in_ok-writeln.ensures.bytes (c.loop-shown.invariant known)
 
 pub returns : goal.returns
-returns g c = lines_all (λ (x : g.row.T.Denot). unwrap_or (g.T.Display.output x) [] ++ codes "\n") _ c.loop-item.item-index _ _ c.loop-item.invariant (omega arith)
+returns g c known = lines_all (line_of g.T.Display.output) _ c.loop-shown.shown-index _ _ (c.loop-shown.invariant known) (omega arith)
