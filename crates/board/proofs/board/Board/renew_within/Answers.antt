@@ -10,7 +10,7 @@ pub invariant_of-self : goal.invariant_of-self
 invariant_of-self c =
     let a = simp length-map at (unturned_le (map turned_in (vec_items c.refill.new.v))) in
     let m : c.args.states * length c.args.records.now ≤ 8192 * length c.args.records.now = mul-le-mul_right (length c.args.records.now) c.requires.few_states in
-    record { few_states = omega arith; few_equations = omega arith; few_cells = omega arith; wide = omega arith; equations_room = omega arith; cells_room = omega arith; counts_room = omega arith; work_room = omega arith; head_room = omega arith; next_room = omega arith; turns_fit = omega arith }
+    record { few_states = omega arith; few_equations = omega arith; few_cells = omega arith; wide = omega arith; counted = omega arith; equations_room = omega arith; cells_room = omega arith; counts_room = omega arith; work_room = omega arith; head_room = omega arith; next_room = omega arith; turns_fit = omega arith }
 
 pub returns : goal.returns
 returns c =
