@@ -72,7 +72,7 @@ pub fn push_equations(out: &mut String, items: &[EquationRecord]) -> Result<(), 
 mod tests {
     use super::*;
 
-    // Of a number `Display` is known and `Printed` is not.
+    // A number displays, and is no `Printed`.
     #[test]
     fn adds_lines_of_numbers(rt: HostRuntime) {
         let numbers: [u16; 3] = [7, 0, 8192];
